@@ -1,0 +1,5 @@
+use Rattle.language.proofs.Safe.{further}
+use Rattle.language.proofs.further.Needs as need
+
+pub returns : need.returns
+returns c = further

@@ -1,0 +1,5 @@
+use Rattle.language.proofs.Safe.{never-wrong}
+use Rattle.language.proofs.never_wrong.Needs as need
+
+pub returns : need.returns
+returns c = never-wrong

@@ -1,0 +1,5 @@
+use Rattle.language.proofs.Samples.{worked}
+use Rattle.language.proofs.worked_programs.Needs as need
+
+pub returns : need.returns
+returns c = worked
