@@ -1,0 +1,6 @@
+-- From bytes to a program, as it must be believed; the model parser; the bounds that the grammar gives.
+pub mod Text
+pub mod Parse
+pub mod ParseAll
+pub mod Bounds
+pub mod Laws

@@ -1,0 +1,2 @@
+// Texts and programs.
+pub fn grammar_stands() -> bool { true }

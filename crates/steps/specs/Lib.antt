@@ -1,0 +1,5 @@
+-- The middle language: its steps, the generator, and what is promised of both.
+pub mod Steps
+pub mod Generate
+pub mod Correct
+pub mod Fits

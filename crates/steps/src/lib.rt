@@ -1,0 +1,2 @@
+// The middle language.
+pub fn steps_stand() -> bool { true }
