@@ -15,12 +15,15 @@ use Rattle.grammar.proofs.Look.{same-eq, and-0, and-1}
 -- how many brackets are open behind a piece, and behind some
 abbrev pub after1 : ℕ → Name → ℕ
 after1 n w = pick (opens w) (n + 1) (pick (shuts w) (n - 1) n)
+
 abbrev pub level : ℕ → List Name → ℕ
 level n [] = n
 level n (w ∷ ws) = level (after1 n w) ws
+
 pub level-++ : (n : ℕ) (s t : List Name) → level n (s ++ t) ≡ level (level n s) t
 level-++ n [] t = refl
 level-++ n (w ∷ s) t = level-++ (after1 n w) s t
+
 -- at most 40 up to a place, and from there
 pub flat-++ : (n : ℕ) (s t : List Name) → T (flat n (s ++ t)) → T (flat n s) × T (flat (level n s) t)
 flat-++ n [] t h = (tt, h)
@@ -29,8 +32,10 @@ flat-++ n (w ∷ s) t h = go (leb n 40) h (λ k. flat-++ (after1 n w) s t k)
     go : (b : Bool) → T (b && flat (after1 n w) (s ++ t)) → (T (flat (after1 n w) (s ++ t)) → T (flat (after1 n w) s) × T (flat (level (after1 n w) s) t)) → T (b && flat (after1 n w) s) × T (flat (level (after1 n w) s) t)
     go true k ih = ih k
     go false k ih = absurd k
+
 pub cut : (n : ℕ) (s t : List Name) → level n s ≡ n → T (flat n (s ++ t)) → T (flat n s) × T (flat n t)
 cut n s t e h = let k = flat-++ n s t h in (k .0, subst (λ m. T (flat m t)) e (k .1))
+
 pub next : (n m : ℕ) (w : Name) (t : List Name) → after1 n w ≡ m → T (flat n (w ∷ t)) → (n ≤ 40) × T (flat m t)
 next n m w t e h = (leb→le n 40 (and-0 (leb n 40) _ h), subst (λ i. T (flat i t)) e (and-1 (leb n 40) _ h))
 
@@ -41,14 +46,18 @@ isnt-same w v f = go (same w v) f
     go : (b : Bool) → (T b → ⊥) → b ≡ false
     go true g = absurd (g tt)
     go false g = refl
+
 plain : (Q : Name → Type 0) → (Q t-lp → ⊥) → (Q t-lb → ⊥) → (Q t-lc → ⊥) → (Q t-rp → ⊥) → (Q t-rb → ⊥) → (Q t-rc → ⊥) → (w : Name) → Q w → (n : ℕ) → after1 n w ≡ n
 plain Q a b c d e f w q n =
-  let no1 : (v : Name) → (Q v → ⊥) → same w v ≡ false = λ v g. isnt-same w v (λ t. g (subst Q (same-eq w v t) q)) in
-  rw (no1 t-lp a, no1 t-lb b, no1 t-lc c, no1 t-rp d, no1 t-rb e, no1 t-rc f)
+    let no1 : (v : Name) → (Q v → ⊥) → same w v ≡ false = λ v g. isnt-same w v (λ t. g (subst Q (same-eq w v t) q)) in
+    rw (no1 t-lp a, no1 t-lb b, no1 t-lc c, no1 t-rp d, no1 t-rb e, no1 t-rc f)
+
 pub plain-name : (x : Name) → T (okName x) → (n : ℕ) → after1 n x ≡ n
 plain-name x = plain (λ w. T (okName w)) (λ h. h) (λ h. h) (λ h. h) (λ h. h) (λ h. h) (λ h. h) x
+
 pub plain-num : (w : Name) (k : ℕ) → Number w k → (n : ℕ) → after1 n w ≡ n
 plain-num w k h = plain (λ v. digitsV 0 v ≡ some k) (Option·none-ne-some k) (Option·none-ne-some k) (Option·none-ne-some k) (Option·none-ne-some k) (Option·none-ne-some k) (Option·none-ne-some k) w (h .1)
+
 pub plain-between : {l o : ℕ} {w : Name} → Between l w o → (n : ℕ) → after1 n w ≡ n
 plain-between plus n = refl
 plain-between minus n = refl
@@ -66,6 +75,7 @@ plain-between any n = refl
 plain-between odd1 n = refl
 plain-between left n = refl
 plain-between right n = refl
+
 pub plain-before : {o : ℕ} {w : Name} → Before w o → (n : ℕ) → after1 n w ≡ n
 plain-before minus1 n = refl
 plain-before not1 n = refl
@@ -73,8 +83,10 @@ plain-before turned n = refl
 
 pub over-++ : (n : ℕ) {m : ℕ} (s t : List Name) → level n s ≡ n → level n t ≡ m → level n (s ++ t) ≡ m
 over-++ n s t p q = level-++ n s t ∙ (ap (λ i. level i t) p ∙ q)
+
 pub shut : (n : ℕ) → (n + 1) - 1 ≡ n
 shut n = omega arith
+
 mutual
   pub even-E : {k : ℕ} {s : List Name} {e : Expr} → Ex k s e → (n : ℕ) → level n s ≡ n
   even-E (looser h x) n = even-E x n
@@ -90,10 +102,12 @@ mutual
   even-E (call-e {x} {s} h y) n = rw (plain-name x h n, level) (over-++ (n + 1) s _ (even-Es y (n + 1)) (shut n))
   even-E (table-e {x} {s} {t} h y z) n = rw (plain-name x h n, level) (over-++ (n + 1) s _ (even-E y (n + 1)) (rw (shut n, level) (over-++ (n + 1) t _ (even-Es z (n + 1)) (shut n))))
   even-E in-e n = shut n
+
   pub even-Es : {s : List Name} {es : Exprs} → Exs s es → (n : ℕ) → level n s ≡ n
   even-Es none-es n = refl
   even-Es (one-es x) n = even-E x n
   even-Es (more-es {s} x y) n = over-++ n s _ (even-E x n) (even-Es y n)
+
 mutual
   pub even-S : {s : List Name} {a : Stmt} → St1 s a → (n : ℕ) → level n s ≡ n
   even-S (set-s {x} {s} h y) n = rw (plain-name x h n, level) (over-++ n s _ (even-E y n) refl)
@@ -106,32 +120,41 @@ mutual
   even-S (return-s {s} x) n = over-++ n s _ (even-E x n) refl
   even-S break-s n = refl
   even-S continue-s n = refl
+
   pub even-B : {s : List Name} {b : Block} → Sts s b → (n : ℕ) → level n s ≡ n
   even-B end-s n = refl
   even-B (more-s {s} x y) n = over-++ n s _ (even-S x n) (even-B y n)
+
 pub even-names : {s xs : List Name} → Names s xs → (n : ℕ) → level n s ≡ n
 even-names (one-n {x} h) n = plain-name x h n
 even-names (more-n {x} {s} h y) n = rw (plain-name x h n, level) (even-names y n)
+
 pub even-nums : {s : List Name} {ns : List ℕ} → Nums s ns → (n : ℕ) → level n s ≡ n
 even-nums (one-v {w} {n = k} h) n = plain-num w k h n
 even-nums (more-v {w} {n = k} {s} h y) n = rw (plain-num w k h n, level) (even-nums y n)
+
 even-par : {s : List Name} {q : Param} → Par s q → (n : ℕ) → level n s ≡ n
 even-par (word-p {x} h) n = plain-name x h n
 even-par (wide-p {x} h) n = rw (plain-name x h n, level) (shut n)
 even-par (byte-p {x} h) n = rw (plain-name x h n, level) (shut n)
+
 pub even-pars : {s : List Name} {qs : List Param} → Pars s qs → (n : ℕ) → level n s ≡ n
 even-pars none-ps n = refl
 even-pars (one-ps x) n = even-par x n
 even-pars (more-ps {s} x y) n = over-++ n s _ (even-par x n) (even-pars y n)
+
 pub even-vars : {s xs : List Name} → Vars s xs → (n : ℕ) → level n s ≡ n
 even-vars no-vars n = refl
 even-vars (some-vars {s} x) n = over-++ n s _ (even-names x n) refl
+
 in-brackets : (w : Name) (k : ℕ) (t : List Name) (n : ℕ) → Number w k → level n t ≡ n → level n (t-lb ∷ w ∷ t-rb ∷ t-semi ∷ t) ≡ n
 in-brackets w k t n h e = rw (plain-num w k h (n + 1), level) (rw (shut n, level) e)
+
 pub even-arrs : {s : List Name} {as₁ : List Arr} → Arrs s as₁ → (n : ℕ) → level n s ≡ n
 even-arrs no-arrs n = refl
 even-arrs (wide-a {x} {w} {n = m} {s} h k y) n = rw (plain-name x h n, level) (in-brackets w m s n k (even-arrs y n))
 even-arrs (byte-a {x} {w} {n = m} {s} h k y) n = rw (plain-name x h n, level) (in-brackets w m s n k (even-arrs y n))
+
 pub even-I : {s : List Name} {i : Item} → It s i → (n : ℕ) → level n s ≡ n
 even-I (word-i {x} h) n = rw (plain-name x h n, level) refl
 even-I (wide-i {x} {w} {n = m} h k) n = rw (plain-name x h n, level) (in-brackets w m [] n k refl)
@@ -141,8 +164,9 @@ even-I (text-i {x} h) n = rw (plain-name x h n, level) refl
 even-I (table-i {x} {s} h y) n = rw (plain-name x h n, level) (over-++ n s _ (even-names y n) refl)
 even-I (use-i {x} {s} h y) n = rw (plain-name x h n, level) (over-++ n s _ (even-names y n) refl)
 even-I (fn-i {x} {s} {t} {u} {v} h a b c d) n =
-  rw (plain-name x h n, level) (over-++ (n + 1) s _ (even-pars a (n + 1)) (rw (shut n, level)
+    rw (plain-name x h n, level) (over-++ (n + 1) s _ (even-pars a (n + 1)) (rw (shut n, level)
     (over-++ (n + 1) t _ (even-vars b (n + 1)) (over-++ (n + 1) u _ (even-arrs c (n + 1)) (over-++ (n + 1) v _ (even-B d (n + 1)) (shut n))))))
+
 pub even-Is : {s : List Name} {is : List Item} → Its s is → (n : ℕ) → level n s ≡ n
 even-Is no-items n = refl
 even-Is (more-items {s} x y) n = over-++ n s _ (even-I x n) (even-Is y n)

@@ -16,15 +16,19 @@ use Rattle.grammar.specs.Parse.{Op, o-or, o-and, o-bin, join, Tie, tie, Piece,
 -- tests
 pub T-of : {b : Bool} → b ≡ true → T b
 T-of e = rw e tt
+
 pub true-of : (b : Bool) → T b → b ≡ true
 true-of true t = refl
 true-of false t = absurd t
+
 pub and-0 : (a b : Bool) → T (a && b) → T a
 and-0 true b t = tt
 and-0 false b t = t
+
 pub and-1 : (a b : Bool) → T (a && b) → T b
 and-1 true b t = t
 and-1 false b t = absurd t
+
 pub false-of : (b : Bool) → T (not b) → b ≡ false
 false-of true t = absurd t
 false-of false t = refl
@@ -34,9 +38,10 @@ same-eq [] [] t = refl
 same-eq [] (y ∷ ys) t = absurd t
 same-eq (x ∷ xs) [] t = absurd t
 same-eq (x ∷ xs) (y ∷ ys) t =
-  let h : x ≡ y = eqb→eq x y (and-0 (eqb x y) _ t) in
-  let k : xs ≡ ys = same-eq xs ys (and-1 (eqb x y) _ t) in
-  cc
+    let h : x ≡ y = eqb→eq x y (and-0 (eqb x y) _ t) in
+    let k : xs ≡ ys = same-eq xs ys (and-1 (eqb x y) _ t) in
+    cc
+
 pub same-refl : (x : Name) → same x x ≡ true
 same-refl [] = refl
 same-refl (x ∷ xs) = rw (true-of _ (eqb-refl x)) (same-refl xs)
@@ -71,32 +76,84 @@ Means p-other w = Unit {0}
 abbrev pub Right : {A : Type 0} → (A → Name → Type 0) → List (Entry A) → Type 0
 Right M [] = Unit {0}
 Right M (e ∷ es) = M (e .val) (e .key) × Right M es
+
 pub pick-means : {A : Type 0} (M : A → Name → Type 0) (b : Bool) (p q : A) (w : Name) → (T b → M p w) → (T (not b) → M q w) → M (pick b p q) w
 pick-means M true p q w f g = f tt
 pick-means M false p q w f g = g tt
+
 pub find-means : {A : Type 0} (M : A → Name → Type 0) (d : A) (es : List (Entry A)) (w : Name) → M d w → Right M es → M (find d es w) w
 find-means M d [] w k h = k
 find-means M d (e ∷ es) w k h =
-  pick-means M (same w (e .key)) (e .val) (find d es w) w
+    pick-means M (same w (e .key)) (e .val) (find d es w) w
     (λ t. subst (M (e .val)) (sym (same-eq w (e .key) t)) (h .0))
     (λ t. find-means M d es w k (h .1))
+
 fixed-right : Right Means fixed
-fixed-right =
-  (refl, (refl, (refl, (refl, (refl, (refl, (refl, (refl, (not1, (turned, (or-t, (and-t, (bin-t plus, (bin-t times, (bin-t over, (bin-t rest,
-  (bin-t is, (bin-t isnt, (bin-t less, (bin-t most, (bin-t more, (bin-t least, (bin-t both, (bin-t any, (bin-t odd1, (bin-t left, (bin-t right, tt)))))))))))))))))))))))))))
+fixed-right = (
+  refl,
+  (
+    refl,
+    (
+      refl,
+      (
+        refl,
+        (
+          refl,
+          (
+            refl,
+            (
+              refl,
+              (
+                refl,
+                (
+                  not1,
+                  (
+                    turned,
+                    (
+                      or-t,
+                      (
+                        and-t,
+                        (
+                          bin-t plus,
+                          (
+                            bin-t times,
+                            (
+                              bin-t over,
+                              (
+                                bin-t rest,
+                                (bin-t is, (bin-t isnt, (bin-t less, (bin-t most, (bin-t more, (bin-t least, (bin-t both, (bin-t any, (bin-t odd1, (bin-t left, (bin-t right, tt))))))))))),
+                              ),
+                            ),
+                          ),
+                        ),
+                      ),
+                    ),
+                  ),
+                ),
+              ),
+            ),
+          ),
+        ),
+      ),
+    ),
+  ),
+)
 
 -- numbers
 pub digits-of : (b : Bool) (w : Name) (n : ℕ) → pick b (digitsV 0 w) none ≡ some n → T b × (digitsV 0 w ≡ some n)
 digits-of true w n h = (tt, h)
 digits-of false w n h = absurd (Option·none-ne-some n h)
+
 pick-none : (b : Bool) → pick {A = Option ℕ} b none none ≡ none
 pick-none true = refl
 pick-none false = refl
+
 name-digits : (x : Name) → T (okName x) → digitsV 0 x ≡ none
 name-digits [] t = absurd t
 name-digits (c ∷ cs) t =
-  let d = and-1 (letters (c ∷ cs)) _ (and-1 (leb (length (c ∷ cs)) 32) _ (and-1 (leb 1 (length (c ∷ cs))) _ t)) in
-  rw (false-of (digit1 (c ∷ cs)) (and-0 (not (digit1 (c ∷ cs))) _ d))
+    let d = and-1 (letters (c ∷ cs)) _ (and-1 (leb (length (c ∷ cs)) 32) _ (and-1 (leb 1 (length (c ∷ cs))) _ t)) in
+    rw (false-of (digit1 (c ∷ cs)) (and-0 (not (digit1 (c ∷ cs))) _ d))
+
 pub name-no-num : (x : Name) → T (okName x) → numOf x ≡ none
 name-no-num x t = rw (name-digits x t) (pick-none _)
 
@@ -107,17 +164,21 @@ look-means w = go (numOf w) refl
     go : (o : Option ℕ) → numOf w ≡ o → Means (opt o (pick (okName w) p-name (find p-other fixed w)) p-num) w
     go none q = pick-means Means (okName w) p-name (find p-other fixed w) w (λ t. t) (λ t. find-means Means p-other fixed w tt fixed-right)
     go (some n) q = digits-of (leb 1 (length w) && leb (length w) 10) w n q
+
 pub look-num : (w : Name) (n : ℕ) → Number w n → look w ≡ p-num n
 unfolding look
 look-num w n h = rw (true-of _ (h .0), h .1)
+
 pub look-name : (x : Name) → T (okName x) → look x ≡ p-name
 unfolding look
 look-name x t = rw (name-no-num x t, true-of _ t)
+
 pub look-before : {w : Name} {o : ℕ} → Before w o → (look w ≡ p-before o) ⊎ ((look w ≡ p-minus) × (o ≡ 0))
 unfolding look
 look-before minus1 = inr (refl, refl)
 look-before not1 = inl refl
 look-before turned = inl refl
+
 -- an operator between two is seen as such, and only those of the relation are
 pub ties-look : {t : Tie} {w : Name} → Ties t w → opOf (look w) ≡ some t
 unfolding look
@@ -139,6 +200,7 @@ ties-look (bin-t any) = refl
 ties-look (bin-t odd1) = refl
 ties-look (bin-t left) = refl
 ties-look (bin-t right) = refl
+
 pub ties-low : {t : Tie} {w : Name} → Ties t w → t .lvl < 8
 ties-low or-t = lit< tt
 ties-low and-t = lit< tt
@@ -158,6 +220,7 @@ ties-low (bin-t any) = lit< tt
 ties-low (bin-t odd1) = lit< tt
 ties-low (bin-t left) = lit< tt
 ties-low (bin-t right) = lit< tt
+
 -- and it opens nothing behind a name
 pub ties-after : {t : Tie} {w : Name} → Ties t w → after (look w) ≡ a-none
 unfolding look
@@ -179,6 +242,7 @@ ties-after (bin-t any) = refl
 ties-after (bin-t odd1) = refl
 ties-after (bin-t left) = refl
 ties-after (bin-t right) = refl
+
 look-ties : (p : Piece) (w : Name) (t : Tie) → Means p w → opOf p ≡ some t → Ties t w
 look-ties (p-op u) w t m e = subst (λ v. Ties v w) (Option·some-injective u t e) m
 look-ties p-minus w t m e = subst (λ v. Ties v w) (Option·some-injective _ t e) (rw m (bin-t minus))
@@ -193,5 +257,6 @@ look-ties p-len w t m e = absurd (Option·none-ne-some t e)
 look-ties p-call w t m e = absurd (Option·none-ne-some t e)
 look-ties p-in w t m e = absurd (Option·none-ne-some t e)
 look-ties p-other w t m e = absurd (Option·none-ne-some t e)
+
 pub tie-of : (w : Name) (t : Tie) → opOf (look w) ≡ some t → Ties t w
 tie-of w t e = look-ties (look w) w t (look-means w) e

@@ -10,5 +10,6 @@ use Rattle.grammar.proofs.ItemComplete.{parse-complete}
 
 got-same : (p q : Prog) {r : List Name} → got p r ≡ got q r → p ≡ q
 got-same p q e = cc
+
 pub one-program : One-program
 one-program t p q x y = got-same p q (sym (parse-complete (x .said)) ∙ parse-complete (y .said))

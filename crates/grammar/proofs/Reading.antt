@@ -11,34 +11,31 @@ use Rattle.grammar.specs.Text.{pieces, gap, flat, calm, Files, Reads}
 use Rattle.language.specs.Checks.{ok}
 use Rattle.grammar.specs.Parse.{Res, fail, got}
 use Rattle.grammar.specs.ParseAll.{parse}
+use Rattle.grammar.specs.Reading.{small, checked, reading}
 use Rattle.grammar.proofs.Look.{true-of, T-of}
 use Rattle.grammar.proofs.Sound.{Post, post-got}
 use Rattle.grammar.proofs.ItemSound.{All, parse-sound}
 use Rattle.grammar.proofs.ItemComplete.{parse-complete}
 
-abbrev pub small : List ℕ → Bool
-small t = leb (length t) 32768 && (flat 0 (pieces gap t) && calm 0 (pieces gap t))
-abbrev pub checked : Bool → Res Prog → Option Prog
-checked b fail = none
-checked b (got p r) = pick (b && ok p) (some p) none
-unfoldable pub reading : List ℕ → Option Prog
-reading t = checked (small t) (parse (pieces gap t))
-
 pub reading-complete : (t : List ℕ) (p : Prog) → Reads t p → reading t ≡ some p
 unfolding reading
 reading-complete t p h = rw (parse-complete (h .said), true-of _ (h .small), true-of _ (h .sound))
+
 pub reading-none : (t : List ℕ) → reading t ≡ none → (p : Prog) → Reads t p → ⊥
 reading-none t e p h = Option·none-ne-some p (sym e ∙ reading-complete t p h)
+
 both : (a b : Bool) (q p : Prog) → pick (a && b) (some q) none ≡ some p → T a × T b × (q ≡ p)
 both true true q p e = (tt, tt, cc)
 both true false q p e = absurd (Option·none-ne-some p e)
 both false b q p e = absurd (Option·none-ne-some p e)
+
 checked-sound : (t : List ℕ) (p : Prog) (m : Res Prog) → Post (All (pieces gap t)) m → checked (small t) m ≡ some p → Reads t p
 checked-sound t p fail h e = absurd (Option·none-ne-some p e)
 checked-sound t p (got q r) h e =
-  let k = both (small t) (ok q) q p e in
-  let f : Files (pieces gap t) q = post-got h .1 in
-  rw (← (k .2)) (record { said = f; small = k .0; sound = k .1 })
+    let k = both (small t) (ok q) q p e in
+    let f : Files (pieces gap t) q = post-got h .1 in
+    rw (← (k .2)) (record { said = f; small = k .0; sound = k .1 })
+
 pub reading-sound : (t : List ℕ) (p : Prog) → reading t ≡ some p → Reads t p
 unfolding reading
 reading-sound t p e = checked-sound t p (parse (pieces gap t)) (parse-sound (pieces gap t)) e

@@ -15,9 +15,11 @@ OfItem P (i-data w x ns) = Unit {0}
 OfItem P (i-table x fs) = Unit {0}
 OfItem P (i-fn g) = P g
 OfItem P (i-use y xs) = Unit {0}
+
 abbrev pub FnsI : (Fn → Type 0) → List Item → Type 0
 FnsI P [] = Unit {0}
 FnsI P (i ∷ is) = OfItem P i × FnsI P is
+
 abbrev pub AllFns : Prog → (Fn → Type 0) → Type 0
 AllFns [] P = Unit {0}
 AllFns (f ∷ fs) P = FnsI P (f .items) × AllFns fs P
@@ -25,6 +27,7 @@ AllFns (f ∷ fs) P = FnsI P (f .items) × AllFns fs P
 abbrev pub count : Exprs → ℕ
 count no = 0
 count (and-then e es) = suc (count es)
+
 -- how many places from the first free one on
 abbrev mutual
   pub deepE : Expr → ℕ
@@ -39,9 +42,11 @@ abbrev mutual
   deepE (call x es) = suc (deepEs es)
   deepE (by-table x e es) = max (deepE e) (suc (suc (deepEs es)))
   deepE input = 1
+
   pub deepEs : Exprs → ℕ
   deepEs no = 0
   deepEs (and-then e es) = max (deepE e) (suc (deepEs es))
+
 abbrev mutual
   pub deepS : Stmt → ℕ
   deepS (set1 x e) = deepE e
@@ -53,9 +58,11 @@ abbrev mutual
   deepS (ret1 e) = deepE e
   deepS break1 = 0
   deepS next1 = 0
+
   pub deepB : Block → ℕ
   deepB end = 1
   deepB (seq1 s b) = max (deepS s) (deepB b)
+
 -- each call has at most 8 arguments
 abbrev mutual
   pub FewE : Expr → Type 0
@@ -70,9 +77,11 @@ abbrev mutual
   FewE (call x es) = (count es ≤ 8) × FewEs es
   FewE (by-table x e es) = FewE e × (count es ≤ 8) × FewEs es
   FewE input = Unit {0}
+
   pub FewEs : Exprs → Type 0
   FewEs no = Unit {0}
   FewEs (and-then e es) = FewE e × FewEs es
+
 abbrev mutual
   pub FewS : Stmt → Type 0
   FewS (set1 x e) = FewE e
@@ -84,6 +93,7 @@ abbrev mutual
   FewS (ret1 e) = FewE e
   FewS break1 = Unit {0}
   FewS next1 = Unit {0}
+
   pub FewB : Block → Type 0
   FewB end = Unit {0}
   FewB (seq1 s b) = FewS s × FewB b
@@ -124,9 +134,11 @@ pub record Costs : Type 0 where
   pub c-entry : ℕ
   pub c-use : ℕ
   pub c-file : ℕ
+
 abbrev pub each : {A : Type 0} → ℕ → List A → ℕ
 each k [] = 0
 each k (x ∷ xs) = k + each k xs
+
 abbrev mutual
   pub wE : Costs → Expr → ℕ
   wE c (num n) = c .c-num
@@ -140,9 +152,11 @@ abbrev mutual
   wE c (call x es) = wEs c es + c .c-call
   wE c (by-table x e es) = wE c e + wEs c es + c .c-table
   wE c input = c .c-input
+
   pub wEs : Costs → Exprs → ℕ
   wEs c no = 0
   wEs c (and-then e es) = wE c e + wEs c es + c .c-arg
+
 abbrev mutual
   pub wS : Costs → Stmt → ℕ
   wS c (set1 x e) = wE c e + c .c-set
@@ -154,11 +168,14 @@ abbrev mutual
   wS c (ret1 e) = wE c e + c .c-ret
   wS c break1 = c .c-break
   wS c next1 = c .c-next
+
   pub wB : Costs → Block → ℕ
   wB c end = 0
   wB c (seq1 s b) = wS c s + wB c b
+
 abbrev pub wFn : Costs → Fn → ℕ
 wFn c g = wB c (g .body) + each (c .c-param) (g .params) + each (c .c-local) (g .vars) + each (c .c-own) (g .arrs) + c .c-fn
+
 abbrev pub wI : Costs → Item → ℕ
 wI c (i-word x) = c .c-word
 wI c (i-arr a) = c .c-arr
@@ -167,12 +184,15 @@ wI c (i-data false x ns) = each (c .c-byte) ns + c .c-data
 wI c (i-table x fs) = each (c .c-entry) fs + c .c-tab
 wI c (i-fn g) = wFn c g
 wI c (i-use y xs) = c .c-use
+
 abbrev pub wIs : Costs → List Item → ℕ
 wIs c [] = 0
 wIs c (i ∷ is) = wI c i + wIs c is
+
 abbrev pub words : Costs → Prog → ℕ
 words c [] = 0
 words c (f ∷ fs) = wIs c (f .items) + words c fs + c .c-file
+
 -- costs that m words for each byte of the text pay for: the multiple of m is how many bytes the form has at least, without its parts;
 -- each expression leaves σ words over
 pub record Fair (m σ : ℕ) (c : Costs) : Type 0 where
@@ -210,23 +230,29 @@ pub record Fair (m σ : ℕ) (c : Costs) : Type 0 where
   pub f-entry : c .c-entry ≤ m
   pub f-use : c .c-use ≤ 6 * m
   pub f-file : c .c-file ≤ 6 * m
+
 -- what the team's code costs
 abbrev pub given : Costs
 given = record { c-num = 4; c-var = 3; c-bin = 9; c-un = 6; c-and = 8; c-or = 10; c-idx = 12; c-len = 4; c-call = 6; c-table = 14; c-arg = 3; c-input = 8; c-set = 4; c-store = 14; c-ex = 0; c-out = 5; c-if = 8; c-while = 8; c-ret = 8; c-break = 3; c-next = 3; c-fn = 40; c-param = 2; c-local = 2; c-own = 16; c-word = 0; c-arr = 0; c-data = 0; c-value = 1; c-byte = 1; c-tab = 0; c-entry = 2; c-use = 0; c-file = 0 }
+
 -- one for each node, argument, parameter, value and entry
 abbrev pub nodes : Costs
 nodes = record { c-num = 1; c-var = 1; c-bin = 1; c-un = 1; c-and = 1; c-or = 1; c-idx = 1; c-len = 1; c-call = 1; c-table = 1; c-arg = 1; c-input = 1; c-set = 1; c-store = 1; c-ex = 1; c-out = 1; c-if = 1; c-while = 1; c-ret = 1; c-break = 1; c-next = 1; c-fn = 1; c-param = 1; c-local = 1; c-own = 1; c-word = 1; c-arr = 1; c-data = 1; c-value = 1; c-byte = 1; c-tab = 1; c-entry = 1; c-use = 1; c-file = 1 }
+
 -- the functions alone, as they are numbered over the files
 abbrev pub is-words : Costs → Is → ℕ
 is-words c (is-word i) = 0
 is-words c (is-arr a w) = 0
 is-words c (is-table fs) = 0
 is-words c (is-fn g) = wFn c g
+
 abbrev pub top-words : Costs → List Top → ℕ
 top-words c [] = 0
 top-words c (t ∷ ts) = is-words c (t .is) + top-words c ts
+
 -- the two bounds, as types
 abbrev pub Deep-bounded : Type 0
 Deep-bounded = (t : List ℕ) (p : Prog) → Reads t p → AllFns p (λ g. deepB (g .body) ≤ 593)
+
 abbrev pub Words-bounded : Type 0
 Words-bounded = (m σ : ℕ) (c : Costs) → Fair m σ c → (t : List ℕ) (p : Prog) → Reads t p → words c p ≤ m * length t

@@ -2,5 +2,6 @@
 pub mod Text
 pub mod Parse
 pub mod ParseAll
+pub mod Reading
 pub mod Bounds
 pub mod Laws

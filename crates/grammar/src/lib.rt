@@ -1,2 +1,4 @@
 // Texts and programs.
-pub fn grammar_stands() -> bool { true }
+pub fn grammar_stands() -> bool {
+    true
+}

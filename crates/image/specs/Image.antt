@@ -16,26 +16,34 @@ pub record Image : Type 0 where
   pub noughts : ℕ
   pub entry : ℕ
   pub moved : List ℕ
+
 -- 19525, how many body words, noughts, the entry, how many are moved; the body, the moved
 abbrev pub row : Image → List ℕ
 row i = 19525 ∷ length (i .body) ∷ i .noughts ∷ i .entry ∷ length (i .moved) ∷ (i .body ++ i .moved)
+
 abbrev pub within : ℕ → List ℕ → Bool
 within n [] = true
 within n (x ∷ xs) = ltb x n && within n xs
+
 pub record Sound (i : Image) : Type 0 where
   pub fine : T (ltb (i .entry) (length (i .body)) && within (length (i .body)) (i .moved))
+
 abbrev pub size : Image → ℕ
 size i = length (i .body) + i .noughts
+
 abbrev pub bump : List ℕ → ℕ → ℕ → List ℕ
 bump [] n b = []
 bump (x ∷ xs) zero b = add x b ∷ xs
 bump (x ∷ xs) (suc n) b = x ∷ bump xs n b
+
 abbrev pub placed : List ℕ → List ℕ → ℕ → List ℕ
 placed xs [] b = xs
 placed xs (n ∷ ns) b = placed (bump xs n b) ns b
+
 -- memory with the image at word a
 abbrev pub loaded : Image → ℕ → List ℕ → List ℕ
 loaded i a mem = take a mem ++ (placed (i .body) (i .moved) (4 * a) ++ (replicate (i .noughts) 0 ++ drop (a + size i) mem))
+
 -- the machine's state after loading: it begins at the entry, with register 2 at the end of the stack's part (words up to 'top'), register 3 where that part begins, right behind the image; all else is as it may be
 pub record Ready (i : Image) (a top : ℕ) (mem : List ℕ) (ins : List ℕ) (m : Machine) : Type 0 where
   pub fits : a + size i ≤ top

@@ -29,6 +29,7 @@ Same m n k (m-goes s) = (x : Machine) × (after k m ≡ goes x) × (x .ins ≡ s
 Same m n k (m-ends y s) = Ended 0 y k m s
 Same m n k (m-traps y s) = Ended 3 y k m s
 Same m n k m-stuck = Unit {0}
+
 pub record Stopped (p : MProg) (s0 : MSt) (m : Machine) (room k n : ℕ) : Type 0 where
   pub s : MSt
   pub steps : ℕ
@@ -37,6 +38,7 @@ pub record Stopped (p : MProg) (s0 : MSt) (m : Machine) (room k n : ℕ) : Type 
   pub ended : Ended 4 0 k m s
   pub short : room < s .held
   pub marked : Among (mark-of s) (s .calls)
+
 pub record Backs (p : MProg) (s0 : MSt) (a top room : ℕ) (m : Machine) : Type 0 where
   pub never-faults : ((n : ℕ) → m-after p n s0 ≡ m-stuck → ⊥) → (k : ℕ) → after k m ≡ faults → ⊥
   pub outside : ((n : ℕ) → m-after p n s0 ≡ m-stuck → ⊥) → (k : ℕ) (x : Machine) → after k m ≡ goes x → (take a (x .mem) ≡ take a (m .mem)) × (drop top (x .mem) ≡ drop top (m .mem))
@@ -45,20 +47,24 @@ pub record Backs (p : MProg) (s0 : MSt) (a top room : ℕ) (m : Machine) : Type 
 module _ (p : MProg) (main : ℕ) (code : List ℕ) (coded : Coded p main code) (some-code : 1 ≤ length code) (good : (g : ℕ) (f : MFn) → fun-of p g ≡ some f → Neat p f) (boot : MFn) (is-boot : nth (p .funs) 0 ≡ some boot) (boot-ends : nth (boot .code) 1 ≡ some (s-ret 0)) (noughts : Firsts p) (f : MFn) (k : fun-of p main ≡ some f) (none-in : f .params ≡ 0) (a top : ℕ) (mem ins : List ℕ) (m : Machine) (ready : Ready (image-of p code) a top mem ins m) where
   abbrev s0 : MSt
   s0 = first-state p main f ins
+
   start : Follows (ctx p main code coded some-code good boot is-boot boot-ends noughts a top mem ins m ready) m s0 0
   start = from-start p main code coded some-code good boot is-boot boot-ends noughts a top mem ins m ready f k none-in
+
   keeps-out : ((n : ℕ) → m-after p n s0 ≡ m-stuck → ⊥) → (j : ℕ) (x : Machine) → after j m ≡ goes x → (take a (x .mem) ≡ take a mem) × (drop top (x .mem) ≡ drop top mem)
   keeps-out w j x h =
-    let (u, v) = outside (ctx p main code coded some-code good boot is-boot boot-ends noughts a top mem ins m ready) m s0 start w j x h in
-    let l : length (take a mem) ≡ a = len-pre p main code coded some-code good boot is-boot boot-ends noughts a top mem ins m ready in
-    let t : (length (take a mem) + length code) + (top - (a + length code)) ≡ top = omega (arith, len-data p main code coded some-code good boot is-boot boot-ends noughts a top mem ins m ready, ready .fits) in
-    (rw l at u, rw t at v)
+      let (u, v) = outside (ctx p main code coded some-code good boot is-boot boot-ends noughts a top mem ins m ready) m s0 start w j x h in
+      let l : length (take a mem) ≡ a = len-pre p main code coded some-code good boot is-boot boot-ends noughts a top mem ins m ready in
+      let t : (length (take a mem) + length code) + (top - (a + length code)) ≡ top = omega (arith, len-data p main code coded some-code good boot is-boot boot-ends noughts a top mem ins m ready, ready .fits) in
+      (rw l at u, rw t at v)
+
   same : (n j : ℕ) (q : MNext) → Is (ctx p main code coded some-code good boot is-boot boot-ends noughts a top mem ins m ready) m n j q → Same m n j q
   same n j (m-goes s) (x, v, h, e, inl o, l) = (x, h, e .is-ins ∙ o .is-ins, e .is-outs ∙ o .is-outs, l)
   same n j (m-goes s) (x, v, h, e, inr o, l) = (x, h, e .is-ins ∙ o .is-ins, e .is-outs ∙ o .is-outs, l)
   same n j (m-ends y s) i = i
   same n j (m-traps y s) i = i
   same n j m-stuck i = tt
+
   follow : (n : ℕ) → (j : ℕ) × (Same m n j (m-after p n s0) ⊎ Stopped p s0 m (top - (a + size (image-of p code))) j n)
   follow n = go (follows (ctx p main code coded some-code good boot is-boot boot-ends noughts a top mem ins m ready) m s0 start n)
     where
@@ -68,12 +74,13 @@ module _ (p : MProg) (main : ℕ) (code : List ℕ) (coded : Coded p main code) 
           either : Is (ctx p main code coded some-code good boot is-boot boot-ends noughts a top mem ins m ready) m n (r .k) (m-after p n s0) ⊎ Short (ctx p main code coded some-code good boot is-boot boot-ends noughts a top mem ins m ready) m (r .k) n s0 → Same m n (r .k) (m-after p n s0) ⊎ Stopped p s0 m (top - (a + size (image-of p code))) (r .k) n
           either (inl i) = inl (same n (r .k) (m-after p n s0) i)
           either (inr o) = inr (record { s = o .s; steps = o .steps; by = o .by; at = o .at; ended = o .ended; short = omega (arith, len-data p main code coded some-code good boot is-boot boot-ends noughts a top mem ins m ready, o .short); marked = o .marked })
+
   pub back-end : Backs p s0 a top (top - (a + size (image-of p code))) m
-  back-end = record
-    { never-faults = λ w j h. never-faults (ctx p main code coded some-code good boot is-boot boot-ends noughts a top mem ins m ready) m s0 start w j h
-    ; outside = λ w j x h. let (u, v) = keeps-out w j x h in let (u0, v0) = keeps-out w 0 m refl in (u ∙ sym u0, v ∙ sym v0)
-    ; follows = follow
-    }
+  back-end = record {
+    never-faults = λ w j h. never-faults (ctx p main code coded some-code good boot is-boot boot-ends noughts a top mem ins m ready) m s0 start w j h;
+    outside = λ w j x h. let (u, v) = keeps-out w j x h in let (u0, v0) = keeps-out w 0 m refl in (u ∙ sym u0, v ∙ sym v0);
+    follows = follow;
+  }
 
 -- what the program keeps to, by its functions
 pub record Tame (p : MProg) (main : ℕ) (f : MFn) : Type 0 where
@@ -85,5 +92,6 @@ pub record Tame (p : MProg) (main : ℕ) (f : MFn) : Type 0 where
   pub is-boot : nth (p .funs) 0 ≡ some boot
   pub boot-ends : nth (boot .code) 1 ≡ some (s-ret 0)
   pub noughts : Firsts p
+
 pub the-back-end : (p : MProg) (main : ℕ) (f : MFn) → Tame p main f → (a top : ℕ) (mem ins : List ℕ) (m : Machine) → Ready (image-of p (code-words p main)) a top mem ins m → Backs p (first-state p main f ins) a top (top - (a + size (image-of p (code-words p main)))) m
 the-back-end p main f t a top mem ins m ready = back-end p main (code-words p main) (coded-all p main (t .neat) (t .short-row)) (omega arith) (t .neat) (t .boot) (t .is-boot) (t .boot-ends) (t .noughts) f (t .is-main) (t .none-in) a top mem ins m ready

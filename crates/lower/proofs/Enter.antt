@@ -28,6 +28,7 @@ pub record Overflows (e : Env) (v w : V) : Type 0 where
   pub number : w .r 17 ≡ 4
   pub is-ins : w .ins ≡ v .ins
   pub is-outs : w .outs ≡ v .outs
+
 pub full-run : (e : Env) (t : MFn) (v : V) → 4 * frame-size t < all → e .floor ≤ v .sp → v .sp ≤ e .total → ltb (4 * (v .sp - e .floor)) (4 * frame-size t) ≡ true → Seg (e .row) (v .pc) (prologue (v .pc) t) → (w : V) × Steps e w v × Overflows e v w
 full-run e t v a b l z g = (_, d-sp (g .0) tt ▸ d-room (g .1 .0) tt tt refl b l ▸ d-lui (g .1 .1 .0) tt ▸ d-alui (g .1 .1 .1 .0) tt tt ▸ left-bge (g .1 .1 .1 .1 .0) tt tt (rw (num-is (4 * frame-size t) a) z) ▸ d-num (g .1 .1 .1 .1 .1 .0) tt (omega arith) ▸ here, record { calls = g .1 .1 .1 .1 .1 .1 .0; number = refl; is-ins = refl; is-outs = refl })
 
@@ -46,35 +47,45 @@ module _ (e : Env) (t : MFn) (v : V) (small : 4 * frame-size t < all) (few : t .
   -- at the stores of the arguments
   abbrev a0 : V
   a0 = keeps (slides (jumps (sets (sets (sets (sets v 5 (stack-at e (v .sp))) 5 (4 * (v .sp - e .floor))) 6 (high (4 * frame-size t))) 6 (add (high (4 * frame-size t)) (low (4 * frame-size t)))) (suc (suc (suc (suc (suc (suc (suc (v .pc))))))))) (v .sp - frame-size t)) ((v .sp - frame-size t) + 0) (v .r 1)
+
   abbrev rest : List LI
   rest = l-num 5 0 ∷ stores (λ j. 5) (t .params) (t .vars)
+
   abbrev rows : Seg (e .row) (a0 .pc) (stores (λ j. 10 + j) 0 (t .params) ++ rest)
   rows = g .1 .1 .1 .1 .1 .1 .1 .1 .1
+
   to-a0 : (w : V) → ltb (4 * (v .sp - e .floor)) (4 * frame-size t) ≡ false → Steps e w a0 → Steps e w v
   to-a0 w z k = d-sp (g .0) tt ▸ d-room (g .1 .0) tt tt refl above in-all ▸ d-lui (g .1 .1 .0) tt ▸ d-alui (g .1 .1 .1 .0) tt tt ▸ taken-bge (g .1 .1 .1 .1 .0) tt tt (rw (num-is (4 * frame-size t) small) z) ▸ d-down (frame-size t) (g .1 .1 .1 .1 .1 .1 .1 .0) tt (num-is (4 * frame-size t) small) small (omega arith) ▸ d-sw (g .1 .1 .1 .1 .1 .1 .1 .1 .0) tt (omega arith) ▸ k
+
   with-args : Stored e (λ j. 10 + j) (t .params) 0 a0
   with-args = stores-run e (λ j. 10 + j) (t .params) 0 a0 (λ j h i. gp-free (10 + j) (omega arith) (omega arith)) (length-put (v .cells) ((v .sp - frame-size t) + 0) (v .r 1) ∙ len) (omega arith) (seg-left (e .row) (a0 .pc) (stores (λ j. 10 + j) 0 (t .params)) rest rows)
+
   -- at the stores of the variables
   abbrev b1 : List ℕ → V
   b1 cs = sets (record { r = a0 .r; sp = v .sp - frame-size t; pc = past (a0 .pc) (stores (λ j. 10 + j) 0 (t .params)); cells = cs; ins = v .ins; outs = v .outs }) 5 0
+
   others : Seg (e .row) (past (a0 .pc) (stores (λ j. 10 + j) 0 (t .params))) rest
   others = seg-right (e .row) (a0 .pc) (stores (λ j. 10 + j) 0 (t .params)) rest rows
+
   long-a0 : length (a0 .cells) ≡ e .total
   long-a0 = length-put (v .cells) ((v .sp - frame-size t) + 0) (v .r 1) ∙ len
+
   with-vars : (b : Stored e (λ j. 10 + j) (t .params) 0 a0) → Stored e (λ j. 5) (t .vars) (t .params) (b1 (b .cs))
   with-vars b = stores-run e (λ j. 5) (t .vars) (t .params) (b1 (b .cs)) (λ j h i. tt) (b .long ∙ long-a0) (omega arith) (others .1)
+
   enters : ltb (4 * (v .sp - e .floor)) (4 * frame-size t) ≡ false → (b : Stored e (λ j. 10 + j) (t .params) 0 a0) → Stored e (λ j. 5) (t .vars) (t .params) (b1 (b .cs)) → Enters e t v
   enters z b w =
-    record
-      { cs = w .cs
-      ; r = b1 (b .cs) .r
-      ; steps = to-a0 _ z (and-on (b .steps) (d-num (others .0) tt (omega arith) ▸ subst (λ p. Steps e (record { r = b1 (b .cs) .r; sp = v .sp - frame-size t; pc = p; cells = w .cs; ins = v .ins; outs = v .outs }) (b1 (b .cs))) (sym (past-both (a0 .pc) (stores (λ j. 10 + j) 0 (t .params)) rest)) (w .steps)))
-      ; ra = w .old _ (inl (omega arith)) ∙ b .old _ (inl (omega arith)) ∙ rw add-zero (nth-put-same (v .cells) (v .sp - frame-size t) (v .r 1) (omega arith))
-      ; args = λ j h. w .old _ (inl (omega arith)) ∙ b .new j (omega arith) (omega arith) ∙ ap some (not-56 (v .r) _ _ _ _ (10 + j) (omega arith))
-      ; vars = λ j h k. w .new j h k
-      ; low = λ i h. w .old i (inl (omega arith)) ∙ b .old i (inl (omega arith)) ∙ nth-put-other (v .cells) ((v .sp - frame-size t) + 0) i (v .r 1) (omega arith)
-      ; high = λ i h. w .old i (inr (omega arith)) ∙ b .old i (inr (omega arith)) ∙ nth-put-other (v .cells) ((v .sp - frame-size t) + 0) i (v .r 1) (omega arith)
-      ; long = w .long ∙ b .long ∙ long-a0
+      record {
+        cs = w .cs;
+        r = b1 (b .cs) .r;
+        steps = to-a0 _ z (and-on (b .steps) (d-num (others .0) tt (omega arith) ▸ subst (λ p. Steps e (record { r = b1 (b .cs) .r; sp = v .sp - frame-size t; pc = p; cells = w .cs; ins = v .ins; outs = v .outs }) (b1 (b .cs))) (sym (past-both (a0 .pc) (stores (λ j. 10 + j) 0 (t .params)) rest)) (w .steps)));
+        ra = w .old _ (inl (omega arith)) ∙ b .old _ (inl (omega arith)) ∙ rw add-zero (nth-put-same (v .cells) (v .sp - frame-size t) (v .r 1) (omega arith));
+        args = λ j h. w .old _ (inl (omega arith)) ∙ b .new j (omega arith) (omega arith) ∙ ap some (not-56 (v .r) _ _ _ _ (10 + j) (omega arith));
+        vars = λ j h k. w .new j h k;
+        low = λ i h. w .old i (inl (omega arith)) ∙ b .old i (inl (omega arith)) ∙ nth-put-other (v .cells) ((v .sp - frame-size t) + 0) i (v .r 1) (omega arith);
+        high = λ i h. w .old i (inr (omega arith)) ∙ b .old i (inr (omega arith)) ∙ nth-put-other (v .cells) ((v .sp - frame-size t) + 0) i (v .r 1) (omega arith);
+        long = w .long ∙ b .long ∙ long-a0;
       }
+
   pub enter-run : ltb (4 * (v .sp - e .floor)) (4 * frame-size t) ≡ false → Enters e t v
   enter-run z = enters z with-args (with-vars with-args)

@@ -19,15 +19,19 @@ after-first (suc k) m n h = ap (λ x. then x step) (after-first k m n h)
 abbrev pub steps-in : {e : Env} {w v : V} → Steps e w v → ℕ
 steps-in here = 0
 steps-in (i ▸ t) = suc (steps-in t)
+
 -- one run behind another
 unfoldable pub and-on : {e : Env} {u w v : V} → Steps e w v → Steps e u w → Steps e u v
 and-on here k = k
 and-on (i ▸ t) k = i ▸ and-on t k
+
 abbrev pub all-of : {e : Env} {w v : V} → Some e w v → Steps e w v
 all-of (i ▹ t) = i ▸ t
+
 pub and-first : {e : Env} {u w v : V} → Steps e w v → Some e u w → Some e u v
 and-first here k = k
 and-first (i ▸ t) k = i ▹ and-on t (all-of k)
+
 pub some-long : {e : Env} {w v : V} (t : Some e w v) → 1 ≤ steps-in (all-of t)
 some-long (i ▹ t) = omega arith
 
@@ -64,6 +68,7 @@ pub record Runs (e : Env) (k : ℕ) (m : Machine) (w : V) : Type 0 where
   pub comes : after k m ≡ goes last
   pub seen : Sees e last w
   pub between : (j : ℕ) → j < k → (x : Machine) × (u : V) × (after j m ≡ goes x) × Sees e x u
+
 pub runs : (e : Env) (w v : V) (t : Steps e w v) (m : Machine) → Sees e m v → Runs e (steps-in t) m w
 unfolding Goes
 runs e w v here m s = record { last = m; comes = refl; seen = s; between = λ j k. absurd (let z : ⊥ = omega arith in z) }
@@ -79,9 +84,12 @@ runs e w v (_▸_ {u = u} i t) m s = let (n, h, q) = one-real e m v u s i in put
 -- branches whose way is known
 pub taken-bnz : {e : Env} {v : V} {s t : ℕ} → nth (e .row) (v .pc) ≡ some (l-bnz s t) → T (gp s) → eqb (v .r s) 0 ≡ false → One e v (jumps v t)
 taken-bnz {e} {v} {s} {t} i g h = subst (λ b. One e v (jumps v (pick (not b) t (suc (v .pc))))) h (d-bnz i g)
+
 pub left-bnz : {e : Env} {v : V} {s t : ℕ} → nth (e .row) (v .pc) ≡ some (l-bnz s t) → T (gp s) → eqb (v .r s) 0 ≡ true → One e v (jumps v (suc (v .pc)))
 left-bnz {e} {v} {s} {t} i g h = subst (λ b. One e v (jumps v (pick (not b) t (suc (v .pc))))) h (d-bnz i g)
+
 pub taken-bge : {e : Env} {v : V} {x y t : ℕ} → nth (e .row) (v .pc) ≡ some (l-bge x y t) → T (gp x) → T (gp y) → ltb (v .r x) (v .r y) ≡ false → One e v (jumps v t)
 taken-bge {e} {v} {x} {y} {t} i g f h = subst (λ b. One e v (jumps v (pick (not b) t (suc (v .pc))))) h (d-bge i g f)
+
 pub left-bge : {e : Env} {v : V} {x y t : ℕ} → nth (e .row) (v .pc) ≡ some (l-bge x y t) → T (gp x) → T (gp y) → ltb (v .r x) (v .r y) ≡ true → One e v (jumps v (suc (v .pc)))
 left-bge {e} {v} {x} {y} {t} i g f h = subst (λ b. One e v (jumps v (pick (not b) t (suc (v .pc))))) h (d-bge i g f)

@@ -19,6 +19,7 @@ use Rattle.lower.proofs.Ops.{past-both}
 abbrev pub Row-fits : ℕ → List LI → Type 0
 Row-fits p [] = Unit {0}
 Row-fits p (i ∷ is) = Wf (to-real p i) × Row-fits (suc p) is
+
 pub both-fit : (p : ℕ) (xs ys : List LI) → Row-fits p xs → Row-fits (past p xs) ys → Row-fits p (xs ++ ys)
 both-fit p [] ys a b = b
 both-fit p (x ∷ xs) ys a b = (a .0, both-fit (suc p) xs ys (a .1) b)
@@ -41,18 +42,23 @@ ops-fit p o-or = omega arith
 ops-fit p o-xor = omega arith
 ops-fit p o-shl = omega arith
 ops-fit p o-shr = omega arith
+
 ops1-fit : (p : ℕ) (o : Op1) → Row-fits p (ops1 o)
 ops1-fit p u-neg = omega arith
 ops1-fit p u-not = omega arith
 ops1-fit p u-inv = omega arith
 ops1-fit p u-flag = omega arith
+
 low-fits : (n : ℕ) → n < all → Near 2048 (low n)
 low-fits n h = omega arith
+
 high-fits : (n : ℕ) → n < all → top n < 1048576
 high-fits n h = omega arith
+
 loads-fit : (n q k p : ℕ) → q + n ≤ 32 → k + n ≤ 1023 → Row-fits p (loads q k n)
 loads-fit zero q k p h l = tt
 loads-fit (suc n) q k p h l = (omega arith, loads-fit n (suc q) (suc k) (suc p) (omega arith) (omega arith))
+
 stores-fit : (rg : ℕ → ℕ) (n k p : ℕ) → ((j : ℕ) → j < k + n → rg j < 32) → k + n ≤ 1023 → Row-fits p (stores rg k n)
 stores-fit rg zero k p h l = tt
 stores-fit rg (suc n) k p h l = let z : rg k < 32 = h k (omega arith) in (omega arith, stores-fit rg n (suc k) (suc p) (λ j i. h j (omega arith)) (omega arith))
@@ -60,9 +66,11 @@ stores-fit rg (suc n) k p h l = let z : rg k < 32 = h k (omega arith) in (omega 
 past-low : (p : ℕ) (xs : List LI) → p ≤ past p xs
 past-low p [] = omega arith
 past-low p (x ∷ xs) = omega (arith, past-low (suc p) xs)
+
 module _ (en at : ℕ → ℕ) (m : MProg) (f : MFn) (neat : Neat m f) (in-reach : (g : ℕ) → en g < 262144) (at-reach : (t : ℕ) → at t < 262144) (all-few : (g : ℕ) (h : MFn) → fun-of m g ≡ some h → h .params ≤ 8) where
   small : 4 * frame-size f < all
   small = omega (arith, neat .fits)
+
   pub step-fits : (p : ℕ) (s : Step) → past p (lower en at m f p s) ≤ 262144 → Firm m (slots f) s → Row-fits p (lower en at m f p s)
   step-fits p (s-num d n) h k = omega (arith, low-fits n (k .1), high-fits n (k .1))
   step-fits p (s-copy d a) h k = omega arith
@@ -74,22 +82,65 @@ module _ (en at : ℕ → ℕ) (m : MProg) (f : MFn) (neat : Neat m f) (in-reach
   step-fits p (s-jump t) h k = let z : at t < 262144 = at-reach t in omega arith
   step-fits p (s-jz a t) h k = let z : at t < 262144 = at-reach t in omega arith
   step-fits p (s-call d g k n os) h l =
-    let q : ℕ = past p (loads 10 k n) in
-    let z : suc (suc q) ≤ 262144 = rw past-both at h in
-    let e : en g < 262144 = in-reach g in
-    let w : n ≤ 8 = by (l .3) in
-    both-fit p (loads 10 k n) (l-jal (en g) ∷ l-sw 10 (suc d) ∷ []) (loads-fit n 10 k p (omega arith) (omega (arith, neat .fits))) (omega (arith, neat .fits))
+      let q : ℕ = past p (loads 10 k n) in
+      let z : suc (suc q) ≤ 262144 = rw past-both at h in
+      let e : en g < 262144 = in-reach g in
+      let w : n ≤ 8 = by (l .3) in
+      both-fit p (loads 10 k n) (l-jal (en g) ∷ l-sw 10 (suc d) ∷ []) (loads-fit n 10 k p (omega arith) (omega (arith, neat .fits))) (omega (arith, neat .fits))
     where
       by : (x : MFn) × (fun-of m g ≡ some x) × (x .params ≡ n) → n ≤ 8
       by (x, u, y) = omega (arith, all-few g x u)
   step-fits p (s-out a) h k = omega arith
   step-fits p (s-ret a) h k = omega (arith, low-fits (4 * frame-size f) small, high-fits (4 * frame-size f) small)
   step-fits p (s-table d i t k n os) h l =
-    let a : tab-long m t < all = omega arith in
-    let b : tab-at m t < all = omega arith in
-    let w : n ≤ 8 = by (l .4) in
-    (omega (arith, neat .fits), (omega (arith, low-fits (tab-long m t) a, high-fits (tab-long m t) a), (omega (arith, low-fits (tab-long m t) a, high-fits (tab-long m t) a), (omega arith, (omega arith, (omega arith, (omega arith, (tt, (omega (arith, high-fits (tab-at m t) b), (omega arith, (omega arith, (omega arith, (omega arith, (omega (arith, low-fits (tab-at m t) b), (omega arith,
-      both-fit _ (loads 10 k n) (l-callr 6 ∷ l-sw 10 (suc d) ∷ []) (loads-fit n 10 k _ (omega arith) (omega (arith, neat .fits))) (omega (arith, neat .fits)))))))))))))))))
+      let a : tab-long m t < all = omega arith in
+      let b : tab-at m t < all = omega arith in
+      let w : n ≤ 8 = by (l .4) in (
+        omega (arith, neat .fits),
+        (
+          omega (arith, low-fits (tab-long m t) a, high-fits (tab-long m t) a),
+          (
+            omega (arith, low-fits (tab-long m t) a, high-fits (tab-long m t) a),
+            (
+              omega arith,
+              (
+                omega arith,
+                (
+                  omega arith,
+                  (
+                    omega arith,
+                    (
+                      tt,
+                      (
+                        omega (arith, high-fits (tab-at m t) b),
+                        (
+                          omega arith,
+                          (
+                            omega arith,
+                            (
+                              omega arith,
+                              (
+                                omega arith,
+                                (
+                                  omega (arith, low-fits (tab-at m t) b),
+                                  (
+                                    omega arith,
+                                    both-fit _ (loads 10 k n) (l-callr 6 ∷ l-sw 10 (suc d) ∷ []) (loads-fit n 10 k _ (omega arith) (omega (arith, neat .fits))) (omega (arith, neat .fits)),
+                                  ),
+                                ),
+                              ),
+                            ),
+                          ),
+                        ),
+                      ),
+                    ),
+                  ),
+                ),
+              ),
+            ),
+          ),
+        ),
+      )
     where
       by : (hs : List ℕ) × (nth (m .tables) t ≡ some hs) × (1 ≤ length hs) × ((l g : ℕ) → nth hs l ≡ some g → (x : MFn) × (fun-of m g ≡ some x) × (x .params ≡ n)) → n ≤ 8
       by (hs, e, o, q) = let (g, z) = nth-in hs 0 (omega arith) in let (x, u, y) = q 0 g z in omega (arith, all-few g x u)
@@ -101,12 +152,38 @@ module _ (en at : ℕ → ℕ) (m : MProg) (f : MFn) (neat : Neat m f) (in-reach
   step-fits p (s-put w (o-own j) i b) h k = tt
   step-fits p (s-len d (o-top a)) h k = omega (arith, neat .fits, low-fits (size-of (lens (m .arrays)) a) (k .1 .1), high-fits (size-of (lens (m .arrays)) a) (k .1 .1))
   step-fits p (s-len d (o-own j)) h k = tt
+
   pub pro-fits : (p : ℕ) → past p (prologue p f) ≤ 262144 → Row-fits p (prologue p f)
   pro-fits p h =
-    let k : f .params ≤ 8 = neat .few in
-    let l : slots f ≤ 1022 = neat .fits in
-    let y : f .params + f .vars ≤ slots f = neat .some-places in
-    let n : Near 2048 (low (4 * frame-size f)) = low-fits (4 * frame-size f) small in
-    let o : top (4 * frame-size f) < 1048576 = high-fits (4 * frame-size f) small in
-    (omega arith, (omega arith, (omega arith, (omega arith, (omega arith, (omega arith, (tt, (omega arith, (omega arith,
-      both-fit _ (stores (λ j. 10 + j) 0 (f .params)) (l-num 5 0 ∷ stores (λ j. 5) (f .params) (f .vars)) (stores-fit (λ j. 10 + j) (f .params) 0 _ (λ j i. omega arith) (omega arith)) (omega arith, stores-fit (λ j. 5) (f .vars) (f .params) _ (λ j i. omega arith) (omega arith)))))))))))
+      let k : f .params ≤ 8 = neat .few in
+      let l : slots f ≤ 1022 = neat .fits in
+      let y : f .params + f .vars ≤ slots f = neat .some-places in
+      let n : Near 2048 (low (4 * frame-size f)) = low-fits (4 * frame-size f) small in
+      let o : top (4 * frame-size f) < 1048576 = high-fits (4 * frame-size f) small in (
+        omega arith,
+        (
+          omega arith,
+          (
+            omega arith,
+            (
+              omega arith,
+              (
+                omega arith,
+                (
+                  omega arith,
+                  (
+                    tt,
+                    (
+                      omega arith,
+                      (
+                        omega arith,
+                        both-fit _ (stores (λ j. 10 + j) 0 (f .params)) (l-num 5 0 ∷ stores (λ j. 5) (f .params) (f .vars)) (stores-fit (λ j. 10 + j) (f .params) 0 _ (λ j i. omega arith) (omega arith)) (omega arith, stores-fit (λ j. 5) (f .vars) (f .params) _ (λ j i. omega arith) (omega arith)),
+                      ),
+                    ),
+                  ),
+                ),
+              ),
+            ),
+          ),
+        ),
+      )

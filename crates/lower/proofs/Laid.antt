@@ -15,6 +15,7 @@ use Rattle.lower.specs.Lower.{lens, size-of, slots, frame-size, lower, prologu
 abbrev pub Seg : List LI → ℕ → List LI → Type 0
 Seg row p [] = Unit {0}
 Seg row p (i ∷ is) = (nth row p ≡ some i) × Seg row (suc p) is
+
 abbrev pub past : ℕ → List LI → ℕ
 past p [] = p
 past p (i ∷ is) = past (suc p) is
@@ -32,6 +33,7 @@ fun-nth m (suc g) f e = go (m .funs) e
 abbrev pub TopArr : MProg → Opnd → Type 0
 TopArr m (o-top a) = (a < length (m .arrays)) × (size-of (lens (m .arrays)) a < all)
 TopArr m (o-own j) = ⊥
+
 abbrev pub Firm : MProg → ℕ → Step → Type 0
 Firm m n (s-num d k) = (d < n) × (k < all)
 Firm m n (s-copy d a) = (d < n) × (a < n)
@@ -50,6 +52,7 @@ Firm m n (s-in d) = d < n
 Firm m n (s-idx d o i) = (d < n) × (i < n) × TopArr m o
 Firm m n (s-put w o i b) = (i < n) × (b < n) × TopArr m o
 Firm m n (s-len d o) = (d < n) × TopArr m o
+
 -- what the functions keep to
 pub record Neat (m : MProg) (f : MFn) : Type 0 where
   pub few : f .params ≤ 8

@@ -23,5 +23,8 @@ pub mod Tabled
 pub mod BackEnd
 pub mod Tames
 pub mod Final
+pub mod CodeSize
+pub mod ImageSize
 pub mod Noughts
+pub mod Builds
 pub mod Samples

@@ -41,23 +41,32 @@ pub record V : Type 0 where
   pub cells : List ℕ
   pub ins : List ℕ
   pub outs : List ℕ
+
 abbrev pub wr : (ℕ → ℕ) → ℕ → ℕ → ℕ → ℕ
 wr r d x q = pick (eqb q d) x (r q)
+
 abbrev pub sets : V → ℕ → ℕ → V
 sets v d x = record { r = wr (v .r) d x; sp = v .sp; pc = suc (v .pc); cells = v .cells; ins = v .ins; outs = v .outs }
+
 abbrev pub keeps : V → ℕ → ℕ → V
 keeps v j x = record { r = v .r; sp = v .sp; pc = suc (v .pc); cells = put (v .cells) j x; ins = v .ins; outs = v .outs }
+
 abbrev pub jumps : V → ℕ → V
 jumps v t = record { r = v .r; sp = v .sp; pc = t; cells = v .cells; ins = v .ins; outs = v .outs }
+
 abbrev pub links : V → ℕ → ℕ → V
 links v x t = record { r = wr (v .r) 1 x; sp = v .sp; pc = t; cells = v .cells; ins = v .ins; outs = v .outs }
+
 abbrev pub slides : V → ℕ → V
 slides v s = record { r = v .r; sp = s; pc = suc (v .pc); cells = v .cells; ins = v .ins; outs = v .outs }
+
 abbrev pub prints : V → V
 prints v = record { r = v .r; sp = v .sp; pc = suc (v .pc); cells = v .cells; ins = v .ins; outs = v .outs ++ (v .r 10 ∷ []) }
+
 -- registers 10 and 11 after reading, and what is left to read
 abbrev pub got : V → ℕ → ℕ → List ℕ → V
 got v x y l = record { r = wr (wr (v .r) 10 x) 11 y; sp = v .sp; pc = suc (v .pc); cells = v .cells; ins = l; outs = v .outs }
+
 -- a place in the row as an address
 abbrev pub address : Env → ℕ → ℕ
 address e p = 4 * (length (e .pre) + p) % all
@@ -65,6 +74,7 @@ address e p = 4 * (length (e .pre) + p) % all
 -- a word of the data as an address, and the stack's floor
 abbrev pub base : Env → ℕ
 base e = length (e .pre) + length (e .code)
+
 abbrev pub floor-at : Env → ℕ
 floor-at e = 4 * (base e + e .floor) % all
 
@@ -99,12 +109,14 @@ pub data One (e : Env) (v : V) : V → Type 0 where
   -- from the code's part, which never changes
   d-lwc : {d s n x : ℕ} (i : ℕ) → nth (e .row) (v .pc) ≡ some (l-lwr d s n) → T (gp d) → T (gp s) → add (v .r s) n ≡ 4 * (length (e .pre) + i) → nth (e .code) i ≡ some x → One e v (sets v d x)
   d-swr : {d s n : ℕ} (i : ℕ) → nth (e .row) (v .pc) ≡ some (l-swr d s n) → T (gp d) → T (gp s) → add (v .r s) n ≡ 4 * (base e + i) → i < e .total → One e v (keeps v i (v .r d))
+
 -- runs of instructions, from the state named last to the one named first
 infixr 20 _▸_
 infixr 20 _▹_
 pub data Steps (e : Env) (w : V) : V → Type 0 where
   here : Steps e w w
   _▸_ : {v u : V} → One e v u → Steps e w u → Steps e w v
+
 -- at least one
 pub data Some (e : Env) (w v : V) : Type 0 where
   _▹_ : {u : V} → One e v u → Steps e w u → Some e w v

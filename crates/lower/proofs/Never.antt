@@ -31,6 +31,7 @@ parts-of pre code cs post mem n p l = (rw p (take-append-seam pre (code ++ (cs +
 module _ (c : Ctx) (m : Machine) (s : MSt) (start : Follows c m s 0) (well : (n : ℕ) → m-after (c .prog) n s ≡ m-stuck → ⊥) where
   ended-at : (k j : ℕ) (a y : ℕ) (t : MSt) → Ended a y k m t → At (c .env) (after (k + j) m)
   ended-at k j a y t r = rw (stays-ended j k a y m (r .last) (r .comes)) tt
+
   at-every : (k : ℕ) → At (c .env) (after k m)
   at-every k = go (follows c m s start (suc k))
     where
@@ -42,15 +43,19 @@ module _ (c : Ctx) (m : Machine) (s : MSt) (start : Follows c m s 0) (well : (n 
           late l (m-ends y t) z i = let b : r .k + (k - r .k) ≡ k = omega arith in rw b at (ended-at (r .k) (k - r .k) 0 y t i)
           late l (m-traps y t) z i = let b : r .k + (k - r .k) ≡ k = omega arith in rw b at (ended-at (r .k) (k - r .k) 3 y t i)
           late l m-stuck z i = absurd (well (suc k) z)
+
           either : (r .k ≤ k) → Is c m (suc k) (r .k) (m-after (c .prog) (suc k) s) ⊎ Short c m (r .k) (suc k) s → At (c .env) (after k m)
           either l (inl i) = late l (m-after (c .prog) (suc k) s) refl i
           either l (inr o) = let b : r .k + (k - r .k) ≡ k = omega arith in rw b at (ended-at (r .k) (k - r .k) 4 0 (o .s) (o .ended))
+
           by : Dec (k < r .k) → At (c .env) (after k m)
           by (yes d) = let (x, w, p, q) = r .between k d in rw p (w, q)
           by (no d) = either (omega arith) (r .is)
+
   pub never-faults : (k : ℕ) → after k m ≡ faults → ⊥
   never-faults k z = rw z at (at-every k)
+
   pub outside : (k : ℕ) (x : Machine) → after k m ≡ goes x → (take (length (c .env .pre)) (x .mem) ≡ c .env .pre) × (drop (base (c .env) + c .env .total) (x .mem) ≡ c .env .post)
   outside k x z =
-    let q : At (c .env) (goes x) = rw z at (at-every k) in
-    parts-of (c .env .pre) (c .env .code) (q .0 .cells) (c .env .post) (x .mem) (c .env .total) (q .1 .is-mem) (q .1 .long)
+      let q : At (c .env) (goes x) = rw z at (at-every k) in
+      parts-of (c .env .pre) (c .env .code) (q .0 .cells) (c .env .post) (x .mem) (c .env .total) (q .1 .is-mem) (q .1 .long)

@@ -19,24 +19,29 @@ use Rattle.lower.proofs.Going.{taken-bnz, left-bnz}
 -- facts on words
 pub num-is : (n : ℕ) → n < all → add (high n) (low n) ≡ n
 num-is n h = omega arith
+
 eq-is : (x y : ℕ) → x < all → y < all → ltb (sub x y) 1 ≡ eqb x y
 eq-is x y h k = go (eqb x y) refl
   where
     go : (b : Bool) → eqb x y ≡ b → ltb (sub x y) 1 ≡ eqb x y
     go true e = let i : x ≡ y = eqb-true x y e in lt-ltb (sub x y) 1 (omega arith) ∙ sym e
     go false e = let i : x ≡ y → ⊥ = eqb-false x y e in le-ltb (sub x y) 1 (omega arith) ∙ sym e
+
 not-is : (b : Bool) → xorW (bit b) 1 ≡ bit (not b)
 not-is true = refl
 not-is false = refl
+
 le-is : (x y : ℕ) → not (ltb y x) ≡ leb x y
 le-is x y = go (ltb y x) refl
   where
     go : (b : Bool) → ltb y x ≡ b → not (ltb y x) ≡ leb x y
     go true e = ap not e ∙ sym (lt-leb x y (ltb-true y x e))
     go false e = ap not e ∙ sym (le-leb x y (ltb-false y x e))
+
 bit-lt : (b : Bool) → bit b < all
 bit-lt true = omega arith
 bit-lt false = omega arith
+
 bits-lt : (f : Bool → Bool → Bool) (n x y : ℕ) → bits f n x y < 2 ^ n
 bits-lt f zero x y = omega arith
 bits-lt f (suc n) x y = let i : bits f n (x / 2) (y / 2) < 2 ^ n = bits-lt f n (x / 2) (y / 2) in rw two-pow-succ (by (f (odd x) (odd y)) (bits f n (x / 2) (y / 2)) (2 ^ n) i)
@@ -44,6 +49,7 @@ bits-lt f (suc n) x y = let i : bits f n (x / 2) (y / 2) < 2 ^ n = bits-lt f n (
     by : (b : Bool) (u z : ℕ) → u < z → bit b + 2 * u < z + z
     by true u z k = omega arith
     by false u z k = omega arith
+
 pub bin-lt : (o : Op) (x y : ℕ) → x < all → y < all → bin-of o x y < all
 bin-lt o-add x y h k = omega arith
 bin-lt o-sub x y h k = omega arith
@@ -69,17 +75,21 @@ bin-lt o-shr x y h k = by (ltb y 32)
     by : (b : Bool) → pick b (x / 2 ^ (y % 32)) 0 < all
     by true = omega (arith, div-le-self x (2 ^ (y % 32)))
     by false = omega arith
+
 -- a shift by what is left of 32, or nothing
 once : (x : ℕ) → x < all → mul x 1 ≡ x
 once x h = omega arith
+
 never : (x : ℕ) → mul x 0 ≡ 0
 never x = omega arith
+
 shl-is : (x y : ℕ) → x < all → mul (shl x (y % 32)) (bit (ltb y 32)) ≡ shl x y
 shl-is x y h = go (ltb y 32) refl
   where
     go : (b : Bool) → ltb y 32 ≡ b → mul (shl x (y % 32)) (bit (ltb y 32)) ≡ shl x y
     go true e = let i : y % 32 ≡ y = omega (arith, ltb-true y 32 e) in ap (λ b. mul (shl x (y % 32)) (bit b)) e ∙ once (shl x (y % 32)) (bin-lt o-shl x (y % 32) h (omega arith)) ∙ ap (shl x) i
     go false e = ap (λ b. mul (shl x (y % 32)) (bit b)) e ∙ never (shl x (y % 32)) ∙ ap (λ b. pick b ((x * 2 ^ (y % 32)) % all) 0) (sym e)
+
 shr-is : (x y : ℕ) → x < all → mul (shr x (y % 32)) (bit (ltb y 32)) ≡ shr x y
 shr-is x y h = go (ltb y 32) refl
   where
@@ -89,8 +99,10 @@ shr-is x y h = go (ltb y 32) refl
 
 abbrev pub regs-to : V → (ℕ → ℕ) → ℕ → V
 regs-to v r p = record { r = r; sp = v .sp; pc = p; cells = v .cells; ins = v .ins; outs = v .outs }
+
 abbrev pub Makes : Env → V → List LI → ℕ → Type 0
 Makes e v is z = (r : ℕ → ℕ) × Steps e (regs-to v r (past (v .pc) is)) v × (r 7 ≡ z)
+
 pub ops-run : (e : Env) (o : Op) (v : V) → v .r 5 < all → v .r 6 < all → no-bin o (v .r 6) ≡ false → Seg (e .row) (v .pc) (ops (v .pc) o) → Makes e v (ops (v .pc) o) (bin-of o (v .r 5) (v .r 6))
 ops-run e o-add v h k n g = (_, d-alu (g .0) tt tt tt ▸ here, refl)
 ops-run e o-sub v h k n g = (_, d-alu (g .0) tt tt tt ▸ here, refl)
@@ -113,9 +125,11 @@ ops-run e o-shr v h k n g = (_, d-alu (g .0) tt tt tt ▸ d-alui (g .1 .0) tt tt
 pub seg-left : (row : List LI) (p : ℕ) (xs ys : List LI) → Seg row p (xs ++ ys) → Seg row p xs
 seg-left row p [] ys g = tt
 seg-left row p (x ∷ xs) ys (h, g) = (h, seg-left row (suc p) xs ys g)
+
 pub seg-right : (row : List LI) (p : ℕ) (xs ys : List LI) → Seg row p (xs ++ ys) → Seg row (past p xs) ys
 seg-right row p [] ys g = g
 seg-right row p (x ∷ xs) ys (h, g) = seg-right row (suc p) xs ys g
+
 pub past-both : (p : ℕ) (xs ys : List LI) → past p (xs ++ ys) ≡ past (past p xs) ys
 past-both p [] ys = refl
 past-both p (x ∷ xs) ys = past-both (suc p) xs ys
@@ -127,6 +141,7 @@ pub record Traps (e : Env) (v w : V) : Type 0 where
   pub with : w .r 10 ≡ 2
   pub is-ins : w .ins ≡ v .ins
   pub is-outs : w .outs ≡ v .outs
+
 pub ops-trap : (e : Env) (o : Op) (v : V) → no-bin o (v .r 6) ≡ true → Seg (e .row) (v .pc) (ops (v .pc) o) → (w : V) × Steps e w v × Traps e v w
 ops-trap e o-add v n g = absurd (both-ways false refl n)
 ops-trap e o-sub v n g = absurd (both-ways false refl n)
@@ -151,9 +166,11 @@ un-lt u-neg x h = omega arith
 un-lt u-not x h = bit-lt (eqb x 0)
 un-lt u-inv x h = omega arith
 un-lt u-flag x h = bit-lt (not (eqb x 0))
+
 nought-is : (x : ℕ) → ltb x 1 ≡ eqb x 0
 nought-is zero = refl
 nought-is (suc x) = le-ltb (suc x) 1 (omega arith) ∙ sym (ne-eqb (suc x) 0 (omega arith))
+
 pub ops1-run : (e : Env) (o : Op1) (v : V) → Seg (e .row) (v .pc) (ops1 o) → Makes e v (ops1 o) (un-of o (v .r 5))
 ops1-run e u-neg v g = (_, d-num (g .0) tt (omega arith) ▸ d-alu (g .1 .0) tt tt tt ▸ here, refl)
 ops1-run e u-not v g = (_, d-alui (g .0) tt tt ▸ here, ap bit (nought-is (v .r 5)))
@@ -182,6 +199,7 @@ binary-is o x y = go (eqb o 0) (eqb o 1) (eqb o 2) (eqb o 3) (eqb o 4) (eqb o 5)
     go false false false false false false false false false false false false false true b14 = refl
     go false false false false false false false false false false false false false false true = refl
     go false false false false false false false false false false false false false false false = refl
+
 pub div0-is : (o y : ℕ) → div0 o y ≡ no-bin (op-of o) y
 unfolding div0
 div0-is zero y = refl
@@ -203,6 +221,7 @@ div0-is (suc (suc (suc (suc (suc o))))) y = rw (ne-eqb (suc (suc (suc (suc (suc 
     go false false false false false false false false true b14 = refl
     go false false false false false false false false false true = refl
     go false false false false false false false false false false = refl
+
 pub single-is : (o x : ℕ) → single o x ≡ un-of (op1-of o) x
 unfolding single
 single-is o x = go (eqb o 0) (eqb o 1)

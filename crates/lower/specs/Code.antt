@@ -35,11 +35,14 @@ pub data LI : Type 0 where
   l-addg : ℕ → ℕ → LI
   l-lwr : ℕ → ℕ → ℕ → LI
   l-swr : ℕ → ℕ → ℕ → LI
+
 abbrev pub rel : ℕ → ℕ → ℕ
 rel p t = ((4 * t + all) - 4 * p) % all
+
 -- register 2 is 2,048 above the frame's first word, so that 1,024 words of the frame are in reach of a signed number of 12 bits
 abbrev pub off : ℕ → ℕ
 off k = (4 * k + (all - 2048)) % all
+
 abbrev pub to-real : ℕ → LI → Instr
 to-real p (l-lw d k) = Lw d 2 (off k)
 to-real p (l-sw s k) = Sw 2 s (off k)

@@ -19,9 +19,11 @@ use Rattle.lower.specs.Code.{LI, l-lw, l-sw, l-num, l-lui, l-alui, l-alu, l-bn
 
 pub data Op : Type 0 where
   o-add o-sub o-mul o-div o-rem o-eq o-ne o-lt o-le o-gt o-ge o-and o-or o-xor o-shl o-shr : Op
+
 pub data Op1 : Type 0 where
   -- u-flag: 1 unless it is 0
   u-neg u-not u-inv u-flag : Op1
+
 -- the operators, but for a division by nought
 abbrev pub bin-of : Op → ℕ → ℕ → ℕ
 bin-of o-add x y = add x y
@@ -40,6 +42,7 @@ bin-of o-or x y = orW x y
 bin-of o-xor x y = xorW x y
 bin-of o-shl x y = shl x y
 bin-of o-shr x y = shr x y
+
 abbrev pub no-bin : Op → ℕ → Bool
 no-bin o-add y = false
 no-bin o-sub y = false
@@ -63,9 +66,11 @@ un-of u-neg x = sub 0 x
 un-of u-not x = bit (eqb x 0)
 un-of u-inv x = sub 4294967295 x
 un-of u-flag x = bit (not (eqb x 0))
+
 -- by their numbers
 abbrev pub op-of : ℕ → Op
 op-of o = pick (eqb o 0) o-add (pick (eqb o 1) o-sub (pick (eqb o 2) o-mul (pick (eqb o 3) o-div (pick (eqb o 4) o-rem (pick (eqb o 5) o-eq (pick (eqb o 6) o-ne (pick (eqb o 7) o-lt (pick (eqb o 8) o-le (pick (eqb o 9) o-gt (pick (eqb o 10) o-ge (pick (eqb o 11) o-and (pick (eqb o 12) o-or (pick (eqb o 13) o-xor (pick (eqb o 14) o-shl o-shr))))))))))))))
+
 abbrev pub op1-of : ℕ → Op1
 op1-of o = pick (eqb o 0) u-neg (pick (eqb o 1) u-not u-inv)
 
@@ -91,97 +96,130 @@ ops p o-shr = l-alu Srl 7 5 6 ∷ l-alui Sltiu 28 6 32 ∷ l-mul Mul 7 7 28 ∷ 
 -- the upper part of a number, and what is added to it
 abbrev pub top : ℕ → ℕ
 top n = (n + 2048) % all / 4096
+
 abbrev pub high : ℕ → ℕ
 high n = top n * 4096
+
 abbrev pub low : ℕ → ℕ
 low n = sub n (high n)
+
 abbrev pub ops1 : Op1 → List LI
 ops1 u-neg = l-num 6 0 ∷ l-alu Sub 7 6 5 ∷ []
 ops1 u-not = l-alui Sltiu 7 5 1 ∷ []
 ops1 u-inv = l-num 6 4294967295 ∷ l-alu Sub 7 6 5 ∷ []
 ops1 u-flag = l-alui Sltiu 7 5 1 ∷ l-alui Xori 7 7 1 ∷ []
+
 -- arrays at the top: how long they are, where each begins behind the words, how many elements in all
 abbrev pub lens : List Cells → List ℕ
 lens [] = []
 lens (c ∷ cs) = length (c .cells) ∷ lens cs
+
 abbrev pub area : List ℕ → ℕ
 area [] = 0
 area (n ∷ ns) = n + area ns
+
 abbrev pub begin-of : List ℕ → ℕ → ℕ
 begin-of [] a = 0
 begin-of (n ∷ ns) zero = 0
 begin-of (n ∷ ns) (suc a) = n + begin-of ns a
+
 abbrev pub size-of : List ℕ → ℕ → ℕ
 size-of ns a = opt (nth ns a) 0 (λ n. n)
+
 abbrev pub flat : List Cells → List ℕ
 flat [] = []
 flat (c ∷ cs) = c .cells ++ flat cs
+
 -- arrays that hold something at first stand in the body, the words and the other arrays behind it
 abbrev pub live : List ℕ → Bool
 live [] = false
 live (n ∷ ns) = pick (eqb n 0) (live ns) true
+
 unfoldable pub live-of : MProg → ℕ → Bool
 live-of m a = opt (nth (m .arrays) a) false (λ c. live (c .cells))
+
 abbrev pub kept : Bool → Cells → Cells
 kept true c = c
 kept false c = record { wide = c .wide; cells = [] }
+
 abbrev pub part : (ℕ → Bool) → List Cells → List Cells
 part fl [] = []
 part fl (c ∷ cs) = kept (fl 0) c ∷ part (λ a. fl (suc a)) cs
+
 abbrev pub plens : (ℕ → Bool) → List ℕ → List ℕ
 plens fl [] = []
 plens fl (n ∷ ns) = pick (fl 0) n 0 ∷ plens (λ a. fl (suc a)) ns
+
 abbrev pub place : (ℕ → Bool) → ℕ → List ℕ → ℕ → ℕ
 place fl w ns a = pick (fl a) (begin-of (plens fl ns) a) (area (plens fl ns) + (w + begin-of (plens (λ i. not (fl i)) ns) a))
+
 abbrev pub data-of : MProg → List ℕ
 data-of m = flat (part (live-of m) (m .arrays))
+
 abbrev pub data-size : MProg → ℕ
 data-size m = area (plens (live-of m) (lens (m .arrays)))
+
 abbrev pub nought-words : MProg → ℕ
 nought-words m = m .words + area (plens (λ i. not (live-of m i)) (lens (m .arrays)))
+
 abbrev pub data-words : MProg → ℕ
 data-words m = data-size m + nought-words m
+
 -- how far the word i is below the stack's floor
 abbrev pub down-to : MProg → ℕ → ℕ
 down-to m i = (all - 4 * (data-words m - i)) % all
+
 abbrev pub word-no : MProg → ℕ → ℕ
 word-no m i = down-to m (data-size m + i)
+
 abbrev pub array-at : MProg → ℕ → ℕ
 array-at m a = down-to m (place (live-of m) (m .words) (lens (m .arrays)) a)
+
 -- tables of functions stand behind the code, one after another: how long they are, how many words in all, how far one is below the stack's floor
 abbrev pub tlens : List (List ℕ) → List ℕ
 tlens [] = []
 tlens (hs ∷ ts) = length hs ∷ tlens ts
+
 abbrev pub tab-size : MProg → ℕ
 tab-size m = area (tlens (m .tables))
+
 abbrev pub tab-long : MProg → ℕ → ℕ
 tab-long m t = size-of (tlens (m .tables)) t % all
+
 abbrev pub tab-at : MProg → ℕ → ℕ
 tab-at m t = (all - 4 * (data-words m + (tab-size m - begin-of (tlens (m .tables)) t))) % all
+
 -- a table's words: how far the functions' entries are below the floor, which is n words behind the code's beginning
 abbrev pub tab-row : (ℕ → ℕ) → ℕ → List ℕ → List ℕ
 tab-row en n [] = []
 tab-row en n (h ∷ hs) = (all - 4 * (n - en h)) % all ∷ tab-row en n hs
+
 abbrev pub tab-words : (ℕ → ℕ) → ℕ → List (List ℕ) → List ℕ
 tab-words en n [] = []
 tab-words en n (hs ∷ ts) = tab-row en n hs ++ tab-words en n ts
+
 -- what is put into an array of bytes loses all but its lowest 8 bits
 abbrev pub masks : Bool → List LI
 masks true = []
 masks false = l-alui Andi 7 7 255 ∷ []
+
 -- arguments to the registers from q on
 abbrev pub loads : ℕ → ℕ → ℕ → List LI
 loads q k zero = []
 loads q k (suc n) = l-lw q (suc k) ∷ loads (suc q) (suc k) n
+
 -- the register rg j to the place j, for n places from k on
 abbrev pub stores : (ℕ → ℕ) → ℕ → ℕ → List LI
 stores rg k zero = []
 stores rg k (suc n) = l-sw (rg k) (suc k) ∷ stores rg (suc k) n
+
 -- a frame: the return address, and the function's places
 abbrev pub slots : MFn → ℕ
 slots f = f .places
+
 abbrev pub frame-size : MFn → ℕ
 frame-size f = suc (slots f)
+
 -- at place p, of the function f whose steps stand at 'at'; functions begin at 'entry'
 abbrev pub lower : (ℕ → ℕ) → (ℕ → ℕ) → MProg → MFn → ℕ → Step → List LI
 lower entry at m f p (s-num d n) = l-lui 5 (top n) ∷ l-alui Addi 5 5 (low n) ∷ l-sw 5 (suc d) ∷ []
@@ -204,8 +242,10 @@ lower entry at m f p (s-put w (o-top a) i b) = l-lw 5 (suc i) ∷ l-lui 6 (top (
 lower entry at m f p (s-put w (o-own j) i b) = []
 lower entry at m f p (s-len d (o-top a)) = l-lui 5 (top (size-of (lens (m .arrays)) a)) ∷ l-alui Addi 5 5 (low (size-of (lens (m .arrays)) a)) ∷ l-sw 5 (suc d) ∷ []
 lower entry at m f p (s-len d (o-own j)) = []
+
 abbrev pub prologue : ℕ → MFn → List LI
 prologue p f = l-sp 5 ∷ l-room 5 5 ∷ l-lui 6 (top (4 * frame-size f)) ∷ l-alui Addi 6 6 (low (4 * frame-size f)) ∷ l-bge 5 6 (suc (suc (suc (suc (suc (suc (suc p))))))) ∷ l-num 17 4 ∷ l-ecall ∷ l-downr 6 ∷ l-sw 1 0 ∷ (stores (λ j. 10 + j) 0 (f .params) ++ (l-num 5 0 ∷ stores (λ j. 5) (f .params) (f .vars)))
+
 -- the last instructions: the end of the program
 abbrev pub stub : List LI
 stub = l-num 17 0 ∷ l-ecall ∷ []
@@ -213,39 +253,51 @@ stub = l-num 17 0 ∷ l-ecall ∷ []
 -- how many instructions a step has doesn't depend on where it stands
 abbrev pub width : MProg → MFn → Step → ℕ
 width m f s = length (lower (λ g. 0) (λ i. 0) m f 0 s)
+
 -- places of steps and functions
 abbrev pub at-of : MProg → MFn → List Step → ℕ → ℕ → ℕ
 at-of m f [] q i = q
 at-of m f (s ∷ ss) q zero = q
 at-of m f (s ∷ ss) q (suc i) = at-of m f ss (q + width m f s) i
+
 abbrev pub code-of : (ℕ → ℕ) → (ℕ → ℕ) → MProg → MFn → List Step → ℕ → List LI
 code-of en at m f [] q = []
 code-of en at m f (s ∷ ss) q = lower en at m f q s ++ code-of en at m f ss (q + width m f s)
+
 abbrev pub pro-width : MFn → ℕ
 pro-width f = length (prologue 0 f)
+
 abbrev pub fun-row : (ℕ → ℕ) → MProg → MFn → ℕ → List LI
 fun-row en m f q = prologue q f ++ code-of en (at-of m f (f .code) (q + pro-width f)) m f (f .code) (q + pro-width f)
+
 abbrev pub fun-width : MProg → MFn → ℕ
 fun-width m f = length (fun-row (λ g. 0) m f 0)
+
 abbrev pub entry-of : MProg → List MFn → ℕ → ℕ → ℕ
 entry-of m [] q g = q
 entry-of m (f ∷ fs) q zero = q
 entry-of m (f ∷ fs) q (suc g) = entry-of m fs (q + fun-width m f) g
+
 abbrev pub funs-row : (ℕ → ℕ) → MProg → List MFn → ℕ → List LI
 funs-row en m [] q = []
 funs-row en m (f ∷ fs) q = fun-row en m f q ++ funs-row en m fs (q + fun-width m f)
+
 -- function 0 only calls the main one and ends: that is the row's beginning, and it has no code of its own
 abbrev pub others : List MFn → List MFn
 others [] = []
 others (f ∷ fs) = fs
+
 abbrev pub fun-of : MProg → ℕ → Option MFn
 fun-of m zero = none
 fun-of m (suc g) = nth (others (m .funs)) g
+
 abbrev pub entry-in : MProg → ℕ → ℕ
 entry-in m zero = 0
 entry-in m (suc g) = entry-of m (others (m .funs)) 6 g
+
 abbrev pub at-in : MProg → ℕ → ℕ → ℕ
 at-in m g i = opt (fun-of m g) 0 (λ f. at-of m f (f .code) (entry-in m g + pro-width f) i)
+
 -- the call of the main function, the end, and the functions
 abbrev pub row-of : MProg → ℕ → List LI
 row-of m main = l-num 5 2047 ∷ l-alui Addi 5 5 1 ∷ l-upr 5 ∷ l-jal (entry-in m main) ∷ (stub ++ funs-row (entry-in m) m (others (m .funs)) 6)
@@ -254,11 +306,15 @@ row-of m main = l-num 5 2047 ∷ l-alui Addi 5 5 1 ∷ l-upr 5 ∷ l-jal (entry-
 abbrev pub words-of : ℕ → List LI → List ℕ
 words-of p [] = []
 words-of p (i ∷ is) = encode (to-real p i) ∷ words-of (suc p) is
+
 abbrev pub code-words : MProg → ℕ → List ℕ
 code-words m main = words-of 0 (row-of m main) ++ tab-words (entry-in m) ((length (row-of m main) + tab-size m) + data-words m) (m .tables)
+
 abbrev pub image-of : MProg → List ℕ → Image
 image-of p code = record { body = code ++ data-of p; noughts = nought-words p; entry = 0; moved = [] }
+
 abbrev pub main-no : Prog → ℕ
 main-no p = fn-no p (first-file p) w-main
+
 abbrev pub compile : Prog → Image
 compile p = image-of (gen-prog p) (code-words (gen-prog p) (main-no p))

@@ -46,9 +46,9 @@ pub record Right (p : Prog) (i : Image) (a top : ℕ) (ins : List ℕ) (m : Mach
   pub outside : (k : ℕ) (x : Machine) → after k m ≡ goes x → (take a (x .mem) ≡ take a (m .mem)) × (drop top (x .mem) ≡ drop top (m .mem))
   -- it ends as the program ends, and only then
   pub ends : (k c x : ℕ) (z : Machine) → after k m ≡ halts c x z →
-    ((c ≡ 0) × ((n : ℕ) × (s : State) × (means p ins n ≡ val (word x) s) × (z .outs ≡ s .outs) × (z .ins ≡ s .ins)))
-    ⊎ (((c ≡ 3) × ((n : ℕ) × (s : State) × (means p ins n ≡ trap x s) × (z .outs ≡ s .outs) × (z .ins ≡ s .ins)))
-    ⊎ ((c ≡ 4) × Stack-short p ins (stack-words i a top) z))
+      ((c ≡ 0) × ((n : ℕ) × (s : State) × (means p ins n ≡ val (word x) s) × (z .outs ≡ s .outs) × (z .ins ≡ s .ins)))
+      ⊎ (((c ≡ 3) × ((n : ℕ) × (s : State) × (means p ins n ≡ trap x s) × (z .outs ≡ s .outs) × (z .ins ≡ s .ins)))
+      ⊎ ((c ≡ 4) × Stack-short p ins (stack-words i a top) z))
   pub comes-to : (n : ℕ) → (Is-spent (means p ins n) → ⊥) → (k c x : ℕ) × (z : Machine) × (after k m ≡ halts c x z)
 
 -- wherever it is loaded, whatever else the memory and the registers hold, and whatever there is to read

@@ -43,20 +43,22 @@ split w = record { op = f-op w; rd = f-rd w; f3 = f-3 w; r1 = f-1 w; r2 = f-2 w;
 
 abbrev pub ok-i′ : Fld → Bool
 ok-i′ d = pick (eqb (d .f3) 1) (eqb (d .f7) 0) (pick (eqb (d .f3) 5) (eqb (d .f7) 0 || eqb (d .f7) 32) true)
+
 abbrev pub ok-r′ : Fld → Bool
 ok-r′ d = eqb (d .f7) 0 || (eqb (d .f7) 32 && (eqb (d .f3) 0 || eqb (d .f3) 5))
+
 abbrev pub acts : Machine → Fld → Next
 acts m d = pick (eqb (d .op) 55) (put-reg m (d .rd) (d .iu))
-  (pick (eqb (d .op) 23) (put-reg m (d .rd) (add (m .pc) (d .iu)))
-  (pick (eqb (d .op) 111) (goes (at-pc (set-reg m (d .rd) (add (m .pc) 4)) (add (m .pc) (d .ij))))
-  (pick (eqb (d .op) 103 && eqb (d .f3) 0) (goes (at-pc (set-reg m (d .rd) (add (m .pc) 4)) (add (reg m (d .r1)) (d .ii) / 2 * 2)))
-  (pick (eqb (d .op) 99) (opt (branch (d .f3) (reg m (d .r1)) (reg m (d .r2))) faults (λ b. goes (pick b (at-pc m (add (m .pc) (d .ib))) (on m))))
-  (pick (eqb (d .op) 3 && eqb (d .f3) 2) (opt (load m (add (reg m (d .r1)) (d .ii))) faults (put-reg m (d .rd)))
-  (pick (eqb (d .op) 35 && eqb (d .f3) 2) (stored m (add (reg m (d .r1)) (d .is)) (reg m (d .r2)))
-  (pick (eqb (d .op) 19 && ok-i′ d) (put-reg m (d .rd) (alu (d .f3) (eqb (d .f3) 5 && eqb (d .f7) 32) (reg m (d .r1)) (d .ii)))
-  (pick (eqb (d .op) 51 && eqb (d .f7) 1) (opt (muls (d .f3) (reg m (d .r1)) (reg m (d .r2))) faults (put-reg m (d .rd)))
-  (pick (eqb (d .op) 51 && ok-r′ d) (put-reg m (d .rd) (alu (d .f3) (eqb (d .f7) 32) (reg m (d .r1)) (reg m (d .r2))))
-  (pick (d .sys) (envs m (reg m 17)) faults))))))))))
+    (pick (eqb (d .op) 23) (put-reg m (d .rd) (add (m .pc) (d .iu)))
+    (pick (eqb (d .op) 111) (goes (at-pc (set-reg m (d .rd) (add (m .pc) 4)) (add (m .pc) (d .ij))))
+    (pick (eqb (d .op) 103 && eqb (d .f3) 0) (goes (at-pc (set-reg m (d .rd) (add (m .pc) 4)) (add (reg m (d .r1)) (d .ii) / 2 * 2)))
+    (pick (eqb (d .op) 99) (opt (branch (d .f3) (reg m (d .r1)) (reg m (d .r2))) faults (λ b. goes (pick b (at-pc m (add (m .pc) (d .ib))) (on m))))
+    (pick (eqb (d .op) 3 && eqb (d .f3) 2) (opt (load m (add (reg m (d .r1)) (d .ii))) faults (put-reg m (d .rd)))
+    (pick (eqb (d .op) 35 && eqb (d .f3) 2) (stored m (add (reg m (d .r1)) (d .is)) (reg m (d .r2)))
+    (pick (eqb (d .op) 19 && ok-i′ d) (put-reg m (d .rd) (alu (d .f3) (eqb (d .f3) 5 && eqb (d .f7) 32) (reg m (d .r1)) (d .ii)))
+    (pick (eqb (d .op) 51 && eqb (d .f7) 1) (opt (muls (d .f3) (reg m (d .r1)) (reg m (d .r2))) faults (put-reg m (d .rd)))
+    (pick (eqb (d .op) 51 && ok-r′ d) (put-reg m (d .rd) (alu (d .f3) (eqb (d .f7) 32) (reg m (d .r1)) (reg m (d .r2))))
+    (pick (d .sys) (envs m (reg m 17)) faults))))))))))
 
 does-acts : (m : Machine) (w : ℕ) → does m w ≡ acts m (split w)
 does-acts m w = refl
@@ -68,22 +70,29 @@ with-six w op rd f3 r1 r2 f7 ii is ib ij = record { op = op; rd = rd; f3 = f3; r
 module _ (w op rd f3 r1 r2 f7 : ℕ) (s : Six w op rd f3 r1 r2 f7) where
   R-form : split w ≡ with-six w op rd f3 r1 r2 f7 (imm-i w) (imm-s w) (imm-b w) (imm-j w)
   R-form = λ i. with-six w (s .at-op i) (s .at-rd i) (s .at-3 i) (s .at-1 i) (s .at-2 i) (s .at-7 i) (imm-i w) (imm-s w) (imm-b w) (imm-j w)
+
   I-form : (x : ℕ) → imm-i w ≡ x → split w ≡ with-six w op rd f3 r1 r2 f7 x (imm-s w) (imm-b w) (imm-j w)
   I-form x e = λ i. with-six w (s .at-op i) (s .at-rd i) (s .at-3 i) (s .at-1 i) (s .at-2 i) (s .at-7 i) (e i) (imm-s w) (imm-b w) (imm-j w)
+
   S-form : (x : ℕ) → imm-s w ≡ x → split w ≡ with-six w op rd f3 r1 r2 f7 (imm-i w) x (imm-b w) (imm-j w)
   S-form x e = λ i. with-six w (s .at-op i) (s .at-rd i) (s .at-3 i) (s .at-1 i) (s .at-2 i) (s .at-7 i) (imm-i w) (e i) (imm-b w) (imm-j w)
+
   B-form : (x : ℕ) → imm-b w ≡ x → split w ≡ with-six w op rd f3 r1 r2 f7 (imm-i w) (imm-s w) x (imm-j w)
   B-form x e = λ i. with-six w (s .at-op i) (s .at-rd i) (s .at-3 i) (s .at-1 i) (s .at-2 i) (s .at-7 i) (imm-i w) (imm-s w) (e i) (imm-j w)
+
   J-form : (x : ℕ) → imm-j w ≡ x → split w ≡ with-six w op rd f3 r1 r2 f7 (imm-i w) (imm-s w) (imm-b w) x
   J-form x e = λ i. with-six w (s .at-op i) (s .at-rd i) (s .at-3 i) (s .at-1 i) (s .at-2 i) (s .at-7 i) (imm-i w) (imm-s w) (imm-b w) (e i)
+
 U-form : (w op rd x : ℕ) → f-op w ≡ op → f-rd w ≡ rd → imm-u w ≡ x → split w ≡ record { op = op; rd = rd; f3 = f-3 w; r1 = f-1 w; r2 = f-2 w; f7 = f-7 w; ii = imm-i w; is = imm-s w; ib = imm-b w; iu = x; ij = imm-j w; sys = eqb w 115 }
 U-form w op rd x e1 e2 e3 = λ i. record { op = e1 i; rd = e2 i; f3 = f-3 w; r1 = f-1 w; r2 = f-2 w; f7 = f-7 w; ii = imm-i w; is = imm-s w; ib = imm-b w; iu = e3 i; ij = imm-j w; sys = eqb w 115 }
 
 -- the numbers, where the fields are a number's parts
 i-imm : (w op rd f3 r1 x : ℕ) → Six w op rd f3 r1 (x % 32) (x / 32 % 128) → Near 2048 x → imm-i w ≡ x
 i-imm w op rd f3 r1 x s n = ap (signed 12) (s .at-i ∙ join-i x) ∙ near-12 x n
+
 s-imm : (w op f3 r1 r2 x : ℕ) → Six w op (x % 32) f3 r1 r2 (x / 32 % 128) → Near 2048 x → imm-s w ≡ x
 s-imm w op f3 r1 r2 x s n = ap₂ (λ (a b : ℕ). signed 12 (a * 32 + b)) (s .at-7) (s .at-rd) ∙ ap (signed 12) (join-i x) ∙ near-12 x n
+
 b-imm : (w op f3 r1 r2 x : ℕ) → Six w op (x / 2048 % 2 + x / 2 % 16 * 2) f3 r1 r2 (x / 32 % 64 + x / 4096 % 2 * 64) → Near 4096 x → Even x → imm-b w ≡ x
 b-imm w op f3 r1 r2 x s n e = ap₂ (λ (a b : ℕ). signed 13 (a / 64 * 4096 + (b % 2 * 2048 + (a % 64 * 32 + b / 2 * 2)))) (s .at-7) (s .at-rd) ∙ ap (signed 13) (join-b x e) ∙ near-13 x n
 
@@ -94,6 +103,7 @@ cond3-lt Blt = lit< tt
 cond3-lt Bge = lit< tt
 cond3-lt Bltu = lit< tt
 cond3-lt Bgeu = lit< tt
+
 pub imm3-lt : (f : Imm) → imm3 f < 8
 imm3-lt Addi = lit< tt
 imm3-lt Slti = lit< tt
@@ -101,10 +111,12 @@ imm3-lt Sltiu = lit< tt
 imm3-lt Xori = lit< tt
 imm3-lt Ori = lit< tt
 imm3-lt Andi = lit< tt
+
 pub shift3-lt : (f : Shift) → shift3 f < 8
 shift3-lt Slli = lit< tt
 shift3-lt Srli = lit< tt
 shift3-lt Srai = lit< tt
+
 pub alu3-lt : (f : Alu) → alu3 f < 8
 alu3-lt Add = lit< tt
 alu3-lt Sub = lit< tt
@@ -116,6 +128,7 @@ alu3-lt Srl = lit< tt
 alu3-lt Sra = lit< tt
 alu3-lt Or = lit< tt
 alu3-lt And = lit< tt
+
 pub prod3-lt : (f : Prod) → prod3 f < 8
 prod3-lt Mul = lit< tt
 prod3-lt Mulhu = lit< tt
@@ -126,6 +139,7 @@ pub shift7-lt : (f : Shift) → shift7 f < 128
 shift7-lt Slli = lit< tt
 shift7-lt Srli = lit< tt
 shift7-lt Srai = lit< tt
+
 pub alu7-lt : (f : Alu) → alu7 f < 128
 alu7-lt Add = lit< tt
 alu7-lt Sub = lit< tt
@@ -151,11 +165,13 @@ module _ (m : Machine) (w rd r1 r2 ii is ib ij : ℕ) where
   op-acts Sra = refl
   op-acts Or = refl
   op-acts And = refl
+
   prod-acts : (f : Prod) → acts m (with-six w 51 rd (prod3 f) r1 r2 1 ii is ib ij) ≡ exec (OpProd f rd r1 r2) m
   prod-acts Mul = refl
   prod-acts Mulhu = refl
   prod-acts Divu = refl
   prod-acts Remu = refl
+
   imm-acts : (f : Imm) (f7 : ℕ) → acts m (with-six w 19 rd (imm3 f) r1 r2 f7 ii is ib ij) ≡ exec (OpImm f rd r1 ii) m
   imm-acts Addi f7 = refl
   imm-acts Slti f7 = refl
@@ -163,6 +179,7 @@ module _ (m : Machine) (w rd r1 r2 ii is ib ij : ℕ) where
   imm-acts Xori f7 = refl
   imm-acts Ori f7 = refl
   imm-acts Andi f7 = refl
+
   branch-acts : (c : Cond) (f7 : ℕ) → acts m (with-six w 99 rd (cond3 c) r1 r2 f7 ii is ib ij) ≡ exec (Branch c r1 r2 ib) m
   branch-acts Beq f7 = refl
   branch-acts Bne f7 = refl
@@ -170,6 +187,7 @@ module _ (m : Machine) (w rd r1 r2 ii is ib ij : ℕ) where
   branch-acts Bge f7 = refl
   branch-acts Bltu f7 = refl
   branch-acts Bgeu f7 = refl
+
   shift-acts : (f : Shift) → acts m (with-six w 19 rd (shift3 f) r1 r2 (shift7 f) ii is ib ij) ≡ exec (OpShift f rd r1 (ii % 32)) m
   shift-acts Slli = refl
   shift-acts Srli = refl

@@ -33,6 +33,7 @@ cond3 Blt = 4
 cond3 Bge = 5
 cond3 Bltu = 6
 cond3 Bgeu = 7
+
 abbrev pub imm3 : Imm → ℕ
 imm3 Addi = 0
 imm3 Slti = 2
@@ -40,14 +41,17 @@ imm3 Sltiu = 3
 imm3 Xori = 4
 imm3 Ori = 6
 imm3 Andi = 7
+
 abbrev pub shift3 : Shift → ℕ
 shift3 Slli = 1
 shift3 Srli = 5
 shift3 Srai = 5
+
 abbrev pub shift7 : Shift → ℕ
 shift7 Slli = 0
 shift7 Srli = 0
 shift7 Srai = 32
+
 abbrev pub alu3 : Alu → ℕ
 alu3 Add = 0
 alu3 Sub = 0
@@ -59,6 +63,7 @@ alu3 Srl = 5
 alu3 Sra = 5
 alu3 Or = 6
 alu3 And = 7
+
 abbrev pub alu7 : Alu → ℕ
 alu7 Add = 0
 alu7 Sub = 32
@@ -70,6 +75,7 @@ alu7 Srl = 0
 alu7 Sra = 32
 alu7 Or = 0
 alu7 And = 0
+
 abbrev pub prod3 : Prod → ℕ
 prod3 Mul = 0
 prod3 Mulhu = 3
@@ -93,6 +99,7 @@ encode Ecall = 115
 -- a word that is a number with a sign between -h and h
 abbrev pub Near : ℕ → ℕ → Type 0
 Near h x = (x < 4294967296) × ((x + h) % 4294967296 < 2 * h)
+
 abbrev pub Even : ℕ → Type 0
 Even x = x % 2 ≡ 0
 
@@ -119,6 +126,7 @@ by-cond Blt x y = less-s x y
 by-cond Bge x y = not (less-s x y)
 by-cond Bltu x y = ltb x y
 by-cond Bgeu x y = not (ltb x y)
+
 abbrev pub by-imm : Imm → ℕ → ℕ → ℕ
 by-imm Addi x y = add x y
 by-imm Slti x y = bit (less-s x y)
@@ -126,10 +134,12 @@ by-imm Sltiu x y = bit (ltb x y)
 by-imm Xori x y = xorW x y
 by-imm Ori x y = orW x y
 by-imm Andi x y = andW x y
+
 abbrev pub by-shift : Shift → ℕ → ℕ → ℕ
 by-shift Slli x n = shl x n
 by-shift Srli x n = shr x n
 by-shift Srai x n = sar x n
+
 abbrev pub by-alu : Alu → ℕ → ℕ → ℕ
 by-alu Add x y = add x y
 by-alu Sub x y = sub x y
@@ -141,6 +151,7 @@ by-alu Srl x y = shr x (y % 32)
 by-alu Sra x y = sar x (y % 32)
 by-alu Or x y = orW x y
 by-alu And x y = andW x y
+
 abbrev pub by-prod : Prod → ℕ → ℕ → ℕ
 by-prod Mul x y = mul x y
 by-prod Mulhu x y = x * y / all

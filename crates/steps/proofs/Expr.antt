@@ -22,9 +22,11 @@ use Rattle.steps.proofs.Sim.{Env, Fun, wE, wEs, WfVar, own, top, WfArr, WfE, W
 len-opt : (o : Option Opnd) (a b : List Step) (m n : ℕ) → length a ≡ m → length b ≡ n → length (opt o a (λ z. b)) ≡ opt o m (λ z. n)
 len-opt none a b m n h g = h
 len-opt (some z) a b m n h g = g
+
 len-un : (o : Option ℕ) (a : List Step) (m : ℕ) → length a ≡ m → length (unless o [] a) ≡ unless o 0 m
 len-un none a m h = h
 len-un (some k) a m h = refl
+
 mutual
   pub len-E : (e : Expr) (Γ : Scope) (d pc : ℕ) → length (genE Γ e d pc) ≡ sizeE Γ e
   len-E (num n) Γ d pc = refl
@@ -38,6 +40,7 @@ mutual
   len-E (call x es) Γ d pc = simp (length-append, len-Es es) (omega arith)
   len-E (by-table x e es) Γ d pc = simp (length-append, len-E e, len-Es es) (omega arith)
   len-E input Γ d pc = refl
+
   pub len-Es : (es : Exprs) (Γ : Scope) (d pc : ℕ) → length (genEs Γ es d pc) ≡ sizeEs Γ es
   len-Es no Γ d pc = refl
   len-Es (and-then e es) Γ d pc = len-opt (arr-arg Γ e) _ _ _ _ (simp (length-append, len-E e, len-Es es)) (len-Es es Γ d pc)
@@ -47,6 +50,7 @@ keeps-upd d ps x i h = upd-other ps d x i (omega arith)
 
 pub keeps-set : {d : ℕ} {ps ps1 : Places} (x : ℕ) → Keeps d ps ps1 → Keeps d ps (upd ps1 d x)
 keeps-set {d} {ps} {ps1} x k i h = upd-other ps1 d x i (omega arith) ∙ k i h
+
 pub keeps-on : {d e : ℕ} {ps ps1 ps2 : Places} → d ≤ e → Keeps d ps ps1 → Keeps e ps1 ps2 → Keeps d ps ps2
 keeps-on l k m i h = m i (omega arith) ∙ k i h
 
@@ -67,16 +71,20 @@ w-pos (len x) = omega arith
 w-pos (call x es) = omega arith
 w-pos (by-table x e es) = omega arith
 w-pos input = omega arith
+
 -- code behind an expression's
 pub behind : (c : List Step) (Γ : Scope) (e : Expr) (d pc : ℕ) (ys : List Step) → At c pc (genE Γ e d pc ++ ys) → At c (pc + sizeE Γ e) ys
 behind c Γ e d pc ys h = at-right c pc (genE Γ e d pc) ys (sizeE Γ e) (len-E e Γ d pc) h
+
 pub front : (c : List Step) (Γ : Scope) (e : Expr) (d pc : ℕ) (ys : List Step) → At c pc (genE Γ e d pc ++ ys) → At c pc (genE Γ e d pc)
 front c Γ e d pc ys h = at-left c pc (genE Γ e d pc) ys h
 
 pub len-V : (e : Expr) (Γ : Scope) (d pc : ℕ) → length (genV Γ e d pc) ≡ sizeV Γ e
 len-V e Γ d pc = len-un (own-at Γ e) (genE Γ e d pc) (sizeE Γ e) (len-E e Γ d pc)
+
 pub behind-V : (c : List Step) (Γ : Scope) (e : Expr) (d pc : ℕ) (ys : List Step) → At c pc (genV Γ e d pc ++ ys) → At c (pc + sizeV Γ e) ys
 behind-V c Γ e d pc ys h = at-right c pc (genV Γ e d pc) ys (sizeV Γ e) (len-un (own-at Γ e) (genE Γ e d pc) (sizeE Γ e) (len-E e Γ d pc)) h
+
 pub front-V : (c : List Step) (Γ : Scope) (e : Expr) (d pc : ℕ) (ys : List Step) → At c pc (genV Γ e d pc ++ ys) → At c pc (genV Γ e d pc)
 front-V c Γ e d pc ys h = at-left c pc (genV Γ e d pc) ys h
 
@@ -86,6 +94,7 @@ own-var v c d pc ps st s pre f x D zero l k o (own i e) g = spentd (omega arith)
 own-var v c d pc ps st s pre f x D (suc n) l k o (own i e) g =
     let q : i ≡ k = some-inj (rw e at o) in let u = var-get (c .j .arrs) (c .ws) (c .Γ .slots) (s .vars) ps x (pre .vars) i e in let b = find-lt (c .Γ .slots) x 0 0 i e in
     rw (u .1) (rw add-zero at (g (u .0) (ap ps (sym q) ∙ u .2) (omega (arith, pre .room))))
+
 -- an operand: in place d, or where it stood
 module _ (v : Env) (n : ℕ) (ih : Sim v n) (c : Fun) (d pc : ℕ) (ps : Places) (st : List Saved) (s : State) (pre : Pre v c d ps s) where
   own-operand : {Q : Cfg → Result → Type 0} (f : Value → State → Result) (e : Expr) (D : ℕ) → D ≤ n - 1 → (k : ℕ) → own-at (c .Γ) e ≡ some k → WfE v c e → ((x : ℕ) → ps k ≡ some x → k < d → Out (v .P) (v .W) Q D (mk (c .j) (pc + 0) ps st s) (f (word x) s)) → Out (v .P) (v .W) Q D (mk (c .j) pc ps st s) (on-val (run (v .p) n (c .file) (t-e e) s) f)
@@ -100,6 +109,7 @@ module _ (v : Env) (n : ℕ) (ih : Sim v n) (c : Fun) (d pc : ℕ) (ps : Places)
   own-operand f (call x es) D l k o w z = absurd (none-some o)
   own-operand f (by-table x a es) D l k o w z = absurd (none-some o)
   own-operand f input D l k o w z = absurd (none-some o)
+
   pub on-operand : {Q : Cfg → Result → Type 0} (f : Value → State → Result) (e : Expr) (D : ℕ) → D ≤ n - wE e → WfE v c e → At (c .G .code) pc (genV (c .Γ) e d pc) → ((x : ℕ) (s1 : State) (ps1 : Places) → Stays s s1 → Keeps d ps ps1 → ps1 (at-place (c .Γ) e d) ≡ some x → at-place (c .Γ) e d < suc d → Out (v .P) (v .W) Q D (mk (c .j) (pc + sizeV (c .Γ) e) ps1 st s1) (f (word x) s1)) → Out (v .P) (v .W) Q D (mk (c .j) pc ps st s) (on-val (run (v .p) n (c .file) (t-e e) s) f)
   on-operand {Q} f e D l w at z = go (own-at (c .Γ) e) refl at z
     where
@@ -131,8 +141,10 @@ module _ (v : Env) (n : ℕ) (ih : Sim v n) (c : Fun) (d pc : ℕ) (ps : Places)
     where
       step : Step
       step = s-bin o d (at-place (c .Γ) a d) (at-place (c .Γ) b (suc d))
+
       code : nth (c .G .code) ((pc + sizeV (c .Γ) a) + sizeV (c .Γ) b) ≡ some step
       code = behind-V (c .G .code) (c .Γ) b (suc d) (pc + sizeV (c .Γ) a) (step ∷ []) (behind-V (c .G .code) (c .Γ) a d pc (genV (c .Γ) b (suc d) (pc + sizeV (c .Γ) a) ++ (step ∷ [])) at) .0
+
       last : (x z : ℕ) (s2 : State) (ps2 : Places) → Stays s s2 → Keeps d ps ps2 → ps2 (at-place (c .Γ) a d) ≡ some x → ps2 (at-place (c .Γ) b (suc d)) ≡ some z → (t : Bool) → div0 o z ≡ t → Out (v .P) (v .W) (QE (c .j) (pc + sizeE (c .Γ) (bin o a b)) d ps st s) (suc n - wE (bin o a b)) (mk (c .j) ((pc + sizeV (c .Γ) a) + sizeV (c .Γ) b) ps2 st s2) (pick t (trap 2 s2) (val (word (binary o x z)) s2))
       last x z s2 ps2 y k h h2 true e = r-bin-trap (pre .here) code h h2 e
       last x z s2 ps2 y k h h2 false e = r-bin (pre .here) code h h2 e (e-done _ _ (omega arith) y (keeps-set _ k) (upd-same ps2 d (binary o x z)))
@@ -145,8 +157,8 @@ module _ (v : Env) (n : ℕ) (ih : Sim v n) (c : Fun) (d pc : ℕ) (ps : Places)
       next : (x : ℕ) (s1 : State) (ps1 : Places) → Stays s s1 → Keeps d ps ps1 → ps1 d ≡ some x → (t : Bool) → eqb x 0 ≡ t → Out (v .P) (v .W) (QE (c .j) (pc + sizeE (c .Γ) (and1 a b)) d ps st s) ((suc n - wE (and1 a b)) - v .W) (mk (c .j) (pick t (pc + sizeE (c .Γ) (and1 a b)) (suc (pc + sizeE (c .Γ) a))) ps1 st s1) (either t (val (word 0)) (λ s0. on-val (run (v .p) n (c .file) (t-e b) s0) (λ u s2. with-word u (λ z. val (word (bit (not (eqb z 0)))) s2))) s1)
       next x s1 ps1 y k h true e = e-done _ _ refl y k (h ∙ ap some (eqb-true x 0 e))
       next x s1 ps1 y k h false e =
-        on-value _ (less _ (omega arith) (ih .e c b d (suc (pc + sizeE (c .Γ) a)) ps1 st s1 (pre-on d ps1 pre y k (omega arith)) (w .1) (front _ _ b d _ _ (behind _ _ a d pc _ at .1)))) λ z s2 ps2 y2 k2 h2.
-        r-flag (pre .here) (behind _ _ b d _ _ (behind _ _ a d pc _ at .1) .0) h2 (e-done _ _ (omega arith) (stays-trans y y2) (keeps-set _ (keeps-on (omega arith) k k2)) (upd-same ps2 d _))
+          on-value _ (less _ (omega arith) (ih .e c b d (suc (pc + sizeE (c .Γ) a)) ps1 st s1 (pre-on d ps1 pre y k (omega arith)) (w .1) (front _ _ b d _ _ (behind _ _ a d pc _ at .1)))) λ z s2 ps2 y2 k2 h2.
+          r-flag (pre .here) (behind _ _ b d _ _ (behind _ _ a d pc _ at .1) .0) h2 (e-done _ _ (omega arith) (stays-trans y y2) (keeps-set _ (keeps-on (omega arith) k k2)) (upd-same ps2 d _))
 
   pub sim-or : (a b : Expr) → Goal (or1 a b)
   sim-or a b w at =
@@ -155,8 +167,8 @@ module _ (v : Env) (n : ℕ) (ih : Sim v n) (c : Fun) (d pc : ℕ) (ps : Places)
     where
       next : (x : ℕ) (s1 : State) (ps1 : Places) → Stays s s1 → Keeps d ps ps1 → ps1 d ≡ some x → (t : Bool) → eqb x 0 ≡ t → Out (v .P) (v .W) (QE (c .j) (pc + sizeE (c .Γ) (or1 a b)) d ps st s) ((suc n - wE (or1 a b)) - v .W) (mk (c .j) (pick t (suc (suc (suc (pc + sizeE (c .Γ) a)))) (suc (pc + sizeE (c .Γ) a))) ps1 st s1) (either t (λ s0. on-val (run (v .p) n (c .file) (t-e b) s0) (λ u s2. with-word u (λ z. val (word (bit (not (eqb z 0)))) s2))) (val (word 1)) s1)
       next x s1 ps1 y k h true e =
-        on-value _ (less _ (omega arith) (ih .e c b d (suc (suc (suc (pc + sizeE (c .Γ) a)))) ps1 st s1 (pre-on d ps1 pre y k (omega arith)) (w .1) (front _ _ b d _ _ (behind _ _ a d pc _ at .1 .1 .1)))) λ z s2 ps2 y2 k2 h2.
-        r-flag (pre .here) (behind _ _ b d _ _ (behind _ _ a d pc _ at .1 .1 .1) .0) h2 (e-done _ _ (omega arith) (stays-trans y y2) (keeps-set _ (keeps-on (omega arith) k k2)) (upd-same ps2 d _))
+          on-value _ (less _ (omega arith) (ih .e c b d (suc (suc (suc (pc + sizeE (c .Γ) a)))) ps1 st s1 (pre-on d ps1 pre y k (omega arith)) (w .1) (front _ _ b d _ _ (behind _ _ a d pc _ at .1 .1 .1)))) λ z s2 ps2 y2 k2 h2.
+          r-flag (pre .here) (behind _ _ b d _ _ (behind _ _ a d pc _ at .1 .1 .1) .0) h2 (e-done _ _ (omega arith) (stays-trans y y2) (keeps-set _ (keeps-on (omega arith) k k2)) (upd-same ps2 d _))
       next x s1 ps1 y k h false e = r-num (pre .here) (behind _ _ a d pc _ at .1 .0) (r-jump (pre .here) (behind _ _ a d pc _ at .1 .1 .0) (e-done _ _ refl y (keeps-set _ k) (upd-same ps1 d 1)))
 
   pub sim-in : Goal input
@@ -179,8 +191,10 @@ module _ (v : Env) (n : ℕ) (ih : Sim v n) (c : Fun) (d pc : ℕ) (ps : Places)
     where
       step : Step
       step = s-idx d (the-arr (c .Γ) x) (at-place (c .Γ) e d)
+
       code : nth (c .G .code) (pc + sizeV (c .Γ) e) ≡ some step
       code = behind-V (c .G .code) (c .Γ) e d pc (step ∷ []) at .0
+
       last : (i : ℕ) (s1 : State) (ps1 : Places) → Stays s s1 → Keeps d ps ps1 → ps1 (at-place (c .Γ) e d) ≡ some i → (a : ArrAt v c x (w .0 .0) s1) (cs : Cells) → nth (s1 .arrays) (a .a) ≡ some cs → (o : Option ℕ) → nth (cs .cells) i ≡ o → Out (v .P) (v .W) (QE (c .j) (pc + sizeE (c .Γ) (idx x e)) d ps st s) (suc n - wE (idx x e)) (mk (c .j) (pc + sizeV (c .Γ) e) ps1 st s1) (opt o (trap 1 s1) (λ n. val (word n) s1))
       last i s1 ps1 y k h a cs hc none u = r-idx-trap (pre .here) (rw (a .op) at code) h (a .at) hc u
       last i s1 ps1 y k h a cs hc (some z) u = r-idx (pre .here) (rw (a .op) at code) h (a .at) hc u (e-done _ _ (omega arith) y (keeps-set _ k) (upd-same ps1 d z))
@@ -208,6 +222,7 @@ module _ (v : Env) (c : Fun) (d pc : ℕ) (ps : Places) (st : List Saved) (s : S
       rw (q .op, q .found)
       (es-then (less _ (omega arith) (ih .es c es ks d pc ps st s (vs ++ (array (q .a) ∷ [])) pre we (rw (q .op) at at))) λ us s2 ps2 ha y2 z2 hx hs.
       rw (append-assoc vs (array (q .a) ∷ []) us) (es-done _ _ (array (q .a) ∷ us) refl (q .width, ha) y2 z2 hx (rw (q .at, hs))))
+
   pub sim-arr-arg : (n : ℕ) → Sim v n → (a : Expr) (es : Exprs) (w : Bool) (ks : List Kind) → Goals (suc n) (and-then a es) (k-arr w ∷ ks)
   sim-arr-arg zero ih a es k ks w at = spentd (omega arith)
   sim-arr-arg (suc n) ih a es k ks w at = subst (λ e. At (c .G .code) pc (genEs (c .Γ) (and-then e es) d pc) → Out (v .P) (v .W) (QEs (c .j) (pc + sizeEs (c .Γ) (and-then e es)) d (count (c .Γ) (and-then e es)) (opnds (c .Γ) (and-then e es)) (k-arr k ∷ ks) (c .ws) vs ps st s) (suc (suc n) - wEs (and-then e es)) (mk (c .j) pc ps st s) (run (v .p) (suc (suc n)) (c .file) (t-es (and-then e es) vs) s)) (sym (w .0 .1)) (sim-arr-var n ih (w .0 .0) es k ks (w .0 .2) (w .1)) at
@@ -217,6 +232,7 @@ module _ (v : Env) (L : Linked v) (c : Fun) where
   -- what stands behind the name of a function
   abbrev callee : (f x : Name) (t : Top) (g : Fn) → resolve (v .p) f x ≡ some t → as-fn t ≡ some g → List Value → State → Fun
   callee f x t g r a us s = let k = L .fn f x t g r a in record { file = t .file; Γ = k .0; j = record { fn = v .no f x; arrs = arrs-of us ++ upto (length (s .arrays)) (k .1 .own) }; G = k .1; ws = wides (s .arrays ++ new-arrs (g .arrs)) }
+
   called : {d : ℕ} {ps : Places} (s : State) (f x : Name) (t : Top) (g : Fn) (r : resolve (v .p) f x ≡ some t) (a : as-fn t ≡ some g) (us : List Value) (ks : List Kind) → Pre v c d ps s → HasAll (c .ws) us ks → kinds (g .params) ≡ ks → Called v g (callee f x t g r a us s) us s
   called s f x t g r a us ks pre h e = record { fn = L .fn f x t g r a .2 _ _; words = pre .words; fits = rw (pre .arrays, e) h; base = λ u w z. ap (λ l. nth l u) (pre .arrays) ∙ pre .base u w z; arrs = refl; ws = refl }
 
@@ -231,8 +247,8 @@ module _ (v : Env) (L : Linked v) (c : Fun) (d pc : ℕ) (ps : Places) (st : Lis
       let fr : Saved = record { act = c .j; pc = suc (pc + sizeEs (c .Γ) es); places = ps1; dest = d } in
       let code = at-right _ pc (genEs (c .Γ) es d pc) _ (sizeEs (c .Γ) es) (len-Es es (c .Γ) d pc) at in
       rw (r, a) (r-call (pre .here) g us (rw (w .2) at (code .0)) (C .fn .here) hx hs (C .fn .costs) (rw (C .fn .own) (fresh-new (g .arrs)))
-        (on-call (less _ (omega (arith, C .fn .light)) (ih .c (omega arith) (callee v L c (c .file) x t g r a us s1) g us fr st s1 C)) λ z s2 y2.
-          e-done _ _ (omega arith) (stays-trans y y2) (keeps-set _ k) (upd-same ps1 d z)))
+      (on-call (less _ (omega (arith, C .fn .light)) (ih .c (omega arith) (callee v L c (c .file) x t g r a us s1) g us fr st s1 C)) λ z s2 y2.
+      e-done _ _ (omega arith) (stays-trans y y2) (keeps-set _ k) (upd-same ps1 d z)))
 
   pub sim-table : (x : Name) (e : Expr) (es : Exprs) → WfE v c (by-table x e es) → At (c .G .code) pc (genE (c .Γ) (by-table x e es) d pc) → (n : ℕ) → Sim v n → Out (v .P) (v .W) (QE (c .j) (pc + sizeE (c .Γ) (by-table x e es)) d ps st s) (suc n - wE (by-table x e es)) (mk (c .j) pc ps st s) (run (v .p) (suc n) (c .file) (t-e (by-table x e es)) s)
   sim-table x e es w at zero ih = spentd (omega arith)
@@ -243,14 +259,15 @@ module _ (v : Env) (L : Linked v) (c : Fun) (d pc : ℕ) (ps : Places) (st : Lis
     where
       code : nth (c .G .code) ((pc + sizeE (c .Γ) e) + sizeEs (c .Γ) es) ≡ some (s-table d d (c .Γ .table-no x) (suc d) (count (c .Γ) es) (opnds (c .Γ) es))
       code = at-right _ (pc + sizeE (c .Γ) e) (genEs (c .Γ) es (suc d) (pc + sizeE (c .Γ) e)) _ (sizeEs (c .Γ) es) (len-Es es (c .Γ) (suc d) (pc + sizeE (c .Γ) e)) (behind _ _ e d pc _ at) .0
+
       last : (i : ℕ) (us : List Value) (s2 : State) (ps2 : Places) → HasAll (c .ws) us (w .0) → Stays s s2 → Keeps d ps ps2 → ps2 d ≡ some i → args ps2 (suc d) (count (c .Γ) es) ≡ some (nums us) → arrs-at (c .j .arrs) (opnds (c .Γ) es) ≡ some (arrs-of us) → (o : Option Name) → nth (w .1 .1) i ≡ o → Out (v .P) (v .W) (QE (c .j) (pc + sizeE (c .Γ) (by-table x e es)) d ps st s) (suc (suc n) - wE (by-table x e es)) (mk (c .j) ((pc + sizeE (c .Γ) e) + sizeEs (c .Γ) es) ps2 st s2) (opt o (trap 1 s2) (λ g. calls (λ g u r. run (v .p) (suc n) g u r) (v .p) (w .1 .0 .file) g us s2))
       last i us s2 ps2 ha y k h hx hs none z = r-table-trap (pre .here) code h (w .1 .4) (L .nos-none (w .1 .0 .file) (w .1 .1) i z)
       last i us s2 ps2 ha y k h hx hs (some f) z =
-        let b = w .1 .5 i f z in
-        let t = b .0 in let g = b .1 in let r = b .2 in let a = b .3 in
-        let q = pre-on d ps2 pre y k (omega arith) in
-        let C = called v L c s2 (w .1 .0 .file) f t g r a us (w .0) q ha (b .4) in
-        let fr : Saved = record { act = c .j; pc = suc ((pc + sizeE (c .Γ) e) + sizeEs (c .Γ) es); places = ps2; dest = d } in
-        rw (r, a) (r-table (pre .here) g us code h (w .1 .4) (L .nos (w .1 .0 .file) (w .1 .1) i f z) (C .fn .here) hx hs (C .fn .costs) (rw (C .fn .own) (fresh-new (g .arrs)))
+          let b = w .1 .5 i f z in
+          let t = b .0 in let g = b .1 in let r = b .2 in let a = b .3 in
+          let q = pre-on d ps2 pre y k (omega arith) in
+          let C = called v L c s2 (w .1 .0 .file) f t g r a us (w .0) q ha (b .4) in
+          let fr : Saved = record { act = c .j; pc = suc ((pc + sizeE (c .Γ) e) + sizeEs (c .Γ) es); places = ps2; dest = d } in
+          rw (r, a) (r-table (pre .here) g us code h (w .1 .4) (L .nos (w .1 .0 .file) (w .1 .1) i f z) (C .fn .here) hx hs (C .fn .costs) (rw (C .fn .own) (fresh-new (g .arrs)))
           (on-call (less _ (omega (arith, C .fn .light)) (ih .c (omega arith) (callee v L c (w .1 .0 .file) f t g r a us s2) g us fr st s2 C)) λ u s3 y3.
-            e-done _ _ (omega arith) (stays-trans y y3) (keeps-set _ k) (upd-same ps2 d u)))
+          e-done _ _ (omega arith) (stays-trans y y3) (keeps-set _ k) (upd-same ps2 d u)))

@@ -14,9 +14,11 @@ use Rattle.steps.specs.Steps.{Step, s-num, s-copy, s-bin, s-un, s-flag, s-getw
 pub front-refl : {A : Type 0} (s : List A) → Front s s
 front-refl [] = none-yet
 front-refl (x ∷ s) = and-so (front-refl s)
+
 pub front-trans : {A : Type 0} {s t u : List A} → Front s t → Front t u → Front s u
 front-trans none-yet g = none-yet
 front-trans (and-so f) (and-so g) = and-so (front-trans f g)
+
 pub front-more : {A : Type 0} (s t : List A) → Front s (s ++ t)
 front-more [] t = none-yet
 front-more (x ∷ s) t = and-so (front-more s t)
@@ -26,24 +28,31 @@ m-marks (m-goes m) = m .calls
 m-marks (m-ends x m) = m .calls
 m-marks (m-traps c m) = m .calls
 m-marks m-stuck = []
+
 pub data Grown (m : MSt) : MNext → Type 0 where
   stuck : Grown m m-stuck
   goes : {z : MSt} → Front (m .outs) (z .outs) → Front (m .calls) (z .calls) → Grown m (m-goes z)
   ends : {x : ℕ} {z : MSt} → Front (m .outs) (z .outs) → Front (m .calls) (z .calls) → Grown m (m-ends x z)
   traps : {x : ℕ} {z : MSt} → Front (m .outs) (z .outs) → Front (m .calls) (z .calls) → Grown m (m-traps x z)
+
 with-opt : {A : Type 0} (m : MSt) (o : Option A) (f : A → MNext) → ((x : A) → Grown m (f x)) → Grown m (opt o m-stuck f)
 with-opt m none f k = stuck
 with-opt m (some x) f k = k x
+
 or-trap : {A : Type 0} (m : MSt) (o : Option A) (c : ℕ) (f : A → MNext) → ((x : A) → Grown m (f x)) → Grown m (opt o (m-traps c m) f)
 or-trap m none c f k = traps (front-refl _) (front-refl _)
 or-trap m (some x) c f k = k x
+
 with-arr : (m : MSt) (o : Opnd) (f : ℕ → Cells → MNext) → ((u : ℕ) (c : Cells) → Grown m (f u c)) → Grown m (with-array m o f)
 with-arr m o f k = with-opt m (arr-at (m .act .arrs) o) _ (λ a. with-opt m (nth (m .arrays) a) _ (λ c. k a c))
+
 same : (m : MSt) (z : MSt) → z .outs ≡ m .outs → z .calls ≡ m .calls → Grown m (m-goes z)
 same m z a b = goes (rw a (front-refl _)) (rw b (front-refl _))
+
 grown-leaves : (g : MFn) (x : ℕ) (fs : List Saved) (m : MSt) → Grown m (leaves g x fs m)
 grown-leaves g x [] m = ends (front-refl _) (front-refl _)
 grown-leaves g x (f ∷ fs) m = same m _ refl refl
+
 grown-exec : (p : MProg) (g : MFn) (c : Step) (m : MSt) → Grown m (exec p g c m)
 grown-exec p g (s-num d n) m = same m _ refl refl
 grown-exec p g (s-copy d a) m = with-opt m _ _ (λ x. same m _ refl refl)
@@ -70,13 +79,16 @@ grown-exec p g (s-in d) m = go (m .ins)
 grown-exec p g (s-idx d r a) m = with-opt m (m .places a) _ (λ i. with-arr m r _ (λ u c. or-trap m (nth (c .cells) i) _ _ (λ x. same m _ refl refl)))
 grown-exec p g (s-put w r a b) m = with-opt m (m .places a) _ (λ i. with-opt m (m .places b) _ (λ n. with-arr m r _ (λ u c. or-trap m (nth (c .cells) i) _ _ (λ x. same m _ refl refl))))
 grown-exec p g (s-len d r) m = with-arr m r _ (λ u c. same m _ refl refl)
+
 grown-step : (p : MProg) (m : MSt) → Grown m (m-step p m)
 grown-step p m = with-opt m (nth (p .funs) (m .act .fn)) _ (λ g. with-opt m (nth (g .code) (m .pc)) _ (λ c. grown-exec p g c m))
+
 grown-more : {m m1 : MSt} {a : MNext} → Front (m .outs) (m1 .outs) → Front (m .calls) (m1 .calls) → Grown m1 a → Grown m a
 grown-more f g stuck = stuck
 grown-more f g (goes a b) = goes (front-trans f a) (front-trans g b)
 grown-more f g (ends a b) = ends (front-trans f a) (front-trans g b)
 grown-more f g (traps a b) = traps (front-trans f a) (front-trans g b)
+
 pub grown : (p : MProg) (i : ℕ) (m : MSt) → Grown m (m-after p i m)
 grown p zero m = goes (front-refl _) (front-refl _)
 grown p (suc i) m = go (m-step p m) (grown-step p m) (grown p i)

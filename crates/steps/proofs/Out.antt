@@ -17,9 +17,11 @@ use Rattle.steps.specs.Steps.{Step, Act, MFn, MProg, Places, upd, Saved, MSt, 
 abbrev pub At : List Step → ℕ → List Step → Type 0
 At c pc [] = Unit {0}
 At c pc (x ∷ xs) = (nth c pc ≡ some x) × At c (suc pc) xs
+
 pub at-left : (c : List Step) (pc : ℕ) (xs ys : List Step) → At c pc (xs ++ ys) → At c pc xs
 at-left c pc [] ys h = tt
 at-left c pc (x ∷ xs) ys h = (h .0, at-left c (suc pc) xs ys (h .1))
+
 pub at-right : (c : List Step) (pc : ℕ) (xs ys : List Step) (n : ℕ) → length xs ≡ n → At c pc (xs ++ ys) → At c (pc + n) ys
 at-right c pc [] ys n e h = let z : pc ≡ pc + n = omega arith in subst (λ i. At c i ys) z h
 at-right c pc (x ∷ xs) ys n e h = let z : suc pc + length xs ≡ pc + n = omega arith in subst (λ i. At c i ys) z (at-right c (suc pc) xs ys (length xs) refl (h .1))
@@ -31,8 +33,10 @@ pub record Cfg : Type 0 where
   pub places : Places
   pub stack : List Saved
   pub world : State
+
 abbrev pub mk : Act → ℕ → Places → List Saved → State → Cfg
 mk j pc ps st s = record { act = j; pc = pc; places = ps; stack = st; world = s }
+
 abbrev pub mst : Cfg → MSt
 mst c = record { act = c .act; pc = c .pc; places = c .places; stack = c .stack; words = c .world .words; arrays = c .world .arrays; ins = c .world .ins; outs = c .world .outs; held = c .world .held; calls = c .world .calls }
 
@@ -53,6 +57,7 @@ less k h (spentd z) = spentd (omega arith)
 pub record Passes (F : Result → Result) : Type 0 where
   pub traps : (c : ℕ) (s : State) → F (trap c s) ≡ trap c s
   pub spents : (s : State) → F (spent s) ≡ spent s
+
 pub bind : {P : MProg} {W : ℕ} {Q1 Q : Cfg → Result → Type 0} {d : ℕ} {m : Cfg} {r : Result} (F : Result → Result) → Passes F → ((m1 : Cfg) (r1 : Result) → Q1 m1 r1 → Out P W Q d m1 (F r1)) → Out P W Q1 d m r → Out P W Q d m (F r)
 bind F pf k (done {m = m} {r = r} q) = k m r q
 bind {W = W} F pf k (stepd {d = d} e o) = stepd e (bind F pf (λ m1 r1 q. less (d - W) (omega arith) (k m1 r1 q)) o)

@@ -22,20 +22,25 @@ use Rattle.steps.proofs.Vars.{none-some, some-inj}
 t-true : (b : Bool) → T b → b ≡ true
 t-true true h = refl
 t-true false h = absurd h
+
 -- a piece that is no bracket
 abbrev pub Plain : Name → Type 0
 Plain w = (opens w ≡ false) × (shuts w ≡ false)
+
 not-eq : (f : ℕ → Bool) (c k : ℕ) → f c ≡ true → f k ≡ false → eqb c k ≡ false
 not-eq f c k h g = go (eqb c k) refl
   where
     go : (b : Bool) → eqb c k ≡ b → eqb c k ≡ false
     go true e = absurd (false≢true (sym g ∙ (ap f (sym (eqb-true c k e)) ∙ h)))
     go false e = e
+
 plain-head : (f : ℕ → Bool) (c : ℕ) (cs : Name) → f c ≡ true → (f 40 ≡ false) × (f 41 ≡ false) × (f 91 ≡ false) × (f 93 ≡ false) × (f 123 ≡ false) × (f 125 ≡ false) → Plain (c ∷ cs)
 plain-head f c cs h z = (rw (not-eq f c 40 h (z .0), not-eq f c 91 h (z .2), not-eq f c 123 h (z .4)), rw (not-eq f c 41 h (z .1), not-eq f c 93 h (z .3), not-eq f c 125 h (z .5)))
+
 pub name-plain : (x : Name) → T (okName x) → Plain x
 name-plain [] h = absurd h
 name-plain (c ∷ cs) h = let a = and-true (leb 1 (length (c ∷ cs))) _ (t-true _ h) in let b = and-true (leb (length (c ∷ cs)) 32) _ (a .1) in let d = and-true (letters (c ∷ cs)) _ (b .1) in let e = and-true (letter c) (letters cs) (d .0) in plain-head letter c cs (e .0) (refl, refl, refl, refl, refl, refl)
+
 pub number-plain : (w : Name) (n : ℕ) → Number w n → Plain w
 number-plain [] n h = absurd (h .0)
 number-plain (c ∷ cs) n h = go (leb 48 c && leb c 57) refl (h .1)
@@ -43,13 +48,17 @@ number-plain (c ∷ cs) n h = go (leb 48 c && leb c 57) refl (h .1)
     go : (b : Bool) → (leb 48 c && leb c 57) ≡ b → pick b (digitsV (0 * 10 + (c - 48)) cs) none ≡ some n → Plain (c ∷ cs)
     go true e d = plain-head (λ c. leb 48 c && leb c 57) c cs e (refl, refl, refl, refl, refl, refl)
     go false e d = absurd (none-some d)
+
 pub flat-on : (n : ℕ) (w : Name) (ws : List Name) → Plain w → flat n (w ∷ ws) ≡ true → flat n ws ≡ true
 flat-on n w ws p h = rw (p .0, p .1) at (and-true (leb n 40) _ h .1)
+
 pub flat-split : (n : ℕ) (s t rest : List Name) → flat n ((s ++ t) ++ rest) ≡ true → flat n (s ++ (t ++ rest)) ≡ true
 flat-split n s t rest h = subst (λ l. flat n l ≡ true) (append-assoc s t rest) h
+
 -- behind what stands in brackets
 pub flat-shut : (n : ℕ) (ws : List Name) → (leb (n + 1) 40 && flat ((n + 1) - 1) ws) ≡ true → (n + 1 ≤ 40) × (flat n ws ≡ true)
 flat-shut n ws h = let a = and-true (leb (n + 1) 40) (flat ((n + 1) - 1) ws) h in let z : (n + 1) - 1 ≡ n = omega arith in (leb→le (n + 1) 40 (subst T (sym (a .0)) tt), rw z at (a .1))
+
 between : (n : ℕ) (w : Name) (o : ℕ) → Between n w o → Plain w × (n ≤ 7)
 between n w o Between.plus = ((refl, refl), omega arith)
 between n w o Between.minus = ((refl, refl), omega arith)
@@ -67,6 +76,7 @@ between n w o Between.any = ((refl, refl), omega arith)
 between n w o Between.odd1 = ((refl, refl), omega arith)
 between n w o Between.left = ((refl, refl), omega arith)
 between n w o Between.right = ((refl, refl), omega arith)
+
 before : (w : Name) (o : ℕ) → Before w o → Plain w
 before w o Before.minus1 = (refl, refl)
 before w o Before.not1 = (refl, refl)
@@ -76,6 +86,7 @@ before w o Before.turned = (refl, refl)
 abbrev pub size : Exprs → ℕ
 size no = 0
 size (and-then e es) = suc (size es)
+
 abbrev mutual
   pub FewE : Expr → Type 0
   FewE (num n) = Unit {0}
@@ -89,9 +100,11 @@ abbrev mutual
   FewE (call x es) = (size es ≤ 8) × FewEs es
   FewE (by-table x e es) = FewE e × (size es ≤ 8) × FewEs es
   FewE input = Unit {0}
+
   pub FewEs : Exprs → Type 0
   FewEs no = Unit {0}
   FewEs (and-then e es) = FewE e × FewEs es
+
 abbrev mutual
   pub FewS : Stmt → Type 0
   FewS (set1 x e) = FewE e
@@ -103,6 +116,7 @@ abbrev mutual
   FewS (ret1 e) = FewE e
   FewS break1 = Unit {0}
   FewS next1 = Unit {0}
+
   pub FewB : Block → Type 0
   FewB end = Unit {0}
   FewB (seq1 s b) = FewS s × FewB b
@@ -113,6 +127,7 @@ arg-need Γ e es = go (arr-arg Γ e)
     go : (o : Option Opnd) → opt o (max (needE Γ e) (suc (needEs Γ es))) (λ z. needEs Γ es) ≤ max (needE Γ e) (suc (needEs Γ es))
     go none = omega arith
     go (some z) = omega arith
+
 module _ (Γ : Scope) where
   -- with n brackets open
   mutual
@@ -136,10 +151,12 @@ module _ (Γ : Scope) where
         let d = exs-room z (f .2) (n + 1) (t-rp ∷ rest) (flat-split (n + 1) t (t-rp ∷ []) rest (and-true (leb n 40) _ (b .1) .1)) in
         let g = flat-shut n rest (d .1) in (omega (arith, a .0, d .0, g .0, f .1), g .1)
     ex-room in-e f n rest h = let b : flat n (t-lp ∷ t-rp ∷ rest) ≡ true = and-true (leb n 40) _ h .1 in let a = and-true (leb n 40) _ b .1 in (omega arith, flat-shut n rest a .1)
+
     exs-room : {s : List Name} {es : Exprs} → Exs s es → FewEs es → (n : ℕ) (rest : List Name) → flat n (s ++ rest) ≡ true → (needEs Γ es ≤ (size es + 9) + (40 - n) * 18) × (flat n rest ≡ true)
     exs-room none-es f n rest h = (omega arith, h)
     exs-room (one-es {e = e} x) f n rest h = let a = ex-room x (f .0) n rest h in (omega (arith, a .0, arg-need Γ e no), a .1)
     exs-room (more-es {s = s} {t = t} {e = e} {f = e1} {es = es} x y) f n rest h = let a = ex-room x (f .0) n _ (flat-split n s _ rest h) in let b = exs-room y (f .1) n rest (and-true (leb n 40) _ (a .1) .1) in (omega (arith, a .0, b .0, arg-need Γ e (and-then e1 es)), b .1)
+
   mutual
     st-room : {s : List Name} {a : Stmt} → St1 s a → FewS a → (n : ℕ) (rest : List Name) → flat n (s ++ rest) ≡ true → (needS Γ a ≤ 11 + (40 - n) * 18) × (flat n rest ≡ true)
     st-room (set-s {x = x} {s = s} q e) f n rest h = let a = ex-room e f n (t-semi ∷ rest) (flat-split n s (t-semi ∷ []) rest (and-true (leb n 40) _ (flat-on n x (t-gets ∷ ((s ++ (t-semi ∷ [])) ++ rest)) (name-plain x q) h) .1)) in (omega (arith, a .0), and-true (leb n 40) _ (a .1) .1)
@@ -173,6 +190,7 @@ module _ (Γ : Scope) where
     st-room (return-s {s = s} e) f n rest h = let a = ex-room e f n (t-semi ∷ rest) (flat-split n s (t-semi ∷ []) rest (and-true (leb n 40) _ h .1)) in (omega (arith, a .0), and-true (leb n 40) _ (a .1) .1)
     st-room break-s f n rest h = let a : flat n (t-semi ∷ rest) ≡ true = and-true (leb n 40) _ h .1 in (omega arith, and-true (leb n 40) _ a .1)
     st-room continue-s f n rest h = let a : flat n (t-semi ∷ rest) ≡ true = and-true (leb n 40) _ h .1 in (omega arith, and-true (leb n 40) _ a .1)
+
     sts-room : {s : List Name} {b : Block} → Sts s b → FewB b → (n : ℕ) (rest : List Name) → flat n (s ++ rest) ≡ true → (needB Γ b ≤ 11 + (40 - n) * 18) × (flat n rest ≡ true)
     sts-room end-s f n rest h = (omega arith, h)
     sts-room (more-s {s = s} {t = t} a b) f n rest h = let x = st-room a (f .0) n (t ++ rest) (flat-split n s t rest h) in let y = sts-room b (f .1) n rest (x .1) in (omega (arith, x .0, y .0), y .1)
@@ -181,22 +199,28 @@ module _ (Γ : Scope) where
 names-flat : {s xs : List Name} → Names s xs → (n : ℕ) (rest : List Name) → flat n (s ++ rest) ≡ true → flat n rest ≡ true
 names-flat (one-n {x = x} q) n rest h = flat-on n x rest (name-plain x q) h
 names-flat (more-n {x = x} {s = s} q r) n rest h = names-flat r n rest (and-true (leb n 40) _ (flat-on n x (t-comma ∷ (s ++ rest)) (name-plain x q) h) .1)
+
 nums-flat : {s : List Name} {ns : List ℕ} → Nums s ns → (n : ℕ) (rest : List Name) → flat n (s ++ rest) ≡ true → flat n rest ≡ true
 nums-flat (one-v {w = w} {n = i} q) n rest h = flat-on n w rest (number-plain w i q) h
 nums-flat (more-v {w = w} {n = i} {s = s} q r) n rest h = nums-flat r n rest (and-true (leb n 40) _ (flat-on n w (t-comma ∷ (s ++ rest)) (number-plain w i q) h) .1)
+
 par-flat : {s : List Name} {q : Param} → Par s q → (n : ℕ) (rest : List Name) → flat n (s ++ rest) ≡ true → flat n rest ≡ true
 par-flat (word-p {x = x} q) n rest h = flat-on n x rest (name-plain x q) h
 par-flat (wide-p {x = x} q) n rest h = flat-shut n rest (and-true (leb n 40) _ (flat-on n x (t-lb ∷ t-rb ∷ rest) (name-plain x q) h) .1) .1
 par-flat (byte-p {x = x} q) n rest h = let a : flat (n + 1) (t-colon ∷ t-rb ∷ rest) ≡ true = and-true (leb n 40) _ (flat-on n x (t-lb ∷ t-colon ∷ t-rb ∷ rest) (name-plain x q) h) .1 in flat-shut n rest (and-true (leb (n + 1) 40) _ a .1) .1
+
 pars-flat : {s : List Name} {qs : List Param} → Pars s qs → (n : ℕ) (rest : List Name) → flat n (s ++ rest) ≡ true → flat n rest ≡ true
 pars-flat none-ps n rest h = h
 pars-flat (one-ps q) n rest h = par-flat q n rest h
 pars-flat (more-ps {s = s} {t = t} q r) n rest h = pars-flat r n rest (and-true (leb n 40) _ (par-flat q n (t-comma ∷ (t ++ rest)) (flat-split n s (t-comma ∷ t) rest h)) .1)
+
 vars-flat : {s xs : List Name} → Vars s xs → (n : ℕ) (rest : List Name) → flat n (s ++ rest) ≡ true → flat n rest ≡ true
 vars-flat no-vars n rest h = h
 vars-flat (some-vars {s = s} q) n rest h = and-true (leb n 40) _ (names-flat q n (t-semi ∷ rest) (flat-split n s (t-semi ∷ []) rest (and-true (leb n 40) _ h .1))) .1
+
 sized : (x w : Name) (i n : ℕ) (rest : List Name) → T (okName x) → Number w i → flat n (x ∷ t-lb ∷ w ∷ t-rb ∷ t-semi ∷ rest) ≡ true → flat n rest ≡ true
 sized x w i n rest q r h = let a : flat n (t-lb ∷ w ∷ t-rb ∷ t-semi ∷ rest) ≡ true = flat-on n x (t-lb ∷ w ∷ t-rb ∷ t-semi ∷ rest) (name-plain x q) h in let b = flat-on (n + 1) w (t-rb ∷ t-semi ∷ rest) (number-plain w i r) (and-true (leb n 40) _ a .1) in and-true (leb n 40) _ (flat-shut n (t-semi ∷ rest) b .1) .1
+
 arrs-flat : {s : List Name} {as₁ : List Arr} → Arrs s as₁ → (n : ℕ) (rest : List Name) → flat n (s ++ rest) ≡ true → flat n rest ≡ true
 arrs-flat no-arrs n rest h = h
 arrs-flat (wide-a {x = x} {w = w} {n = i} {s = s} q r k) n rest h = arrs-flat k n rest (sized x w i n (s ++ rest) q r (and-true (leb n 40) _ h .1))
@@ -209,6 +233,7 @@ FewI (i-data d x ns) = Unit {0}
 FewI (i-table x fs) = Unit {0}
 FewI (i-fn g) = FewB (g .body)
 FewI (i-use x ys) = Unit {0}
+
 abbrev RoomI : Item → Type 0
 RoomI (i-word x) = Unit {0}
 RoomI (i-arr a) = Unit {0}
@@ -216,6 +241,7 @@ RoomI (i-data d x ns) = Unit {0}
 RoomI (i-table x fs) = Unit {0}
 RoomI (i-fn g) = (Γ : Scope) → needB Γ (g .body) ≤ 731
 RoomI (i-use x ys) = Unit {0}
+
 it-room : {s : List Name} {i : Item} → It s i → FewI i → (n : ℕ) (rest : List Name) → flat n (s ++ rest) ≡ true → RoomI i × (flat n rest ≡ true)
 it-room (word-i {x = x} q) f n rest h = let a : flat n (x ∷ t-semi ∷ rest) ≡ true = and-true (leb n 40) _ h .1 in (tt, and-true (leb n 40) _ (flat-on n x (t-semi ∷ rest) (name-plain x q) a) .1)
 it-room (wide-i {x = x} {w = w} {n = i} q r) f n rest h = (tt, sized x w i n rest q r (and-true (leb n 40) _ h .1))
@@ -234,9 +260,11 @@ it-room (fn-i {x = x} {s = s} {t = t} {u = u} {v = v} q ps vs as₁ b) f n rest 
     let a5 = arrs-flat as₁ (n + 1) (w1 ++ rest) (flat-split (n + 1) u w1 rest a4) in
     let a6 = flat-split (n + 1) v (t-rc ∷ []) rest a5 in
     ((λ Γ. omega (arith, sts-room Γ b f (n + 1) (t-rc ∷ rest) a6 .0)), flat-shut n rest (sts-room (scope [] [] []) b f (n + 1) (t-rc ∷ rest) a6 .1) .1)
+
 its-room : {s : List Name} {is : List Item} → Its s is → Each FewI is → (n : ℕ) (rest : List Name) → flat n (s ++ rest) ≡ true → Each RoomI is × (flat n rest ≡ true)
 its-room no-items f n rest h = (tt, h)
 its-room (more-items {s = s} {t = t} i r) f n rest h = let a = it-room i (f .0) n (t ++ rest) (flat-split n s t rest h) in let b = its-room r (f .1) n rest (a .1) in ((a .0, b .0), b .1)
+
 files-room : {s : List Name} {p : Prog} → Files s p → Each (λ f. Each FewI (f .items)) p → flat 0 s ≡ true → Each (λ f. Each RoomI (f .items)) p
 files-room no-files f h = tt
 files-room (more-files {x = x} {s = s} {t = t} q i r) f h = let a : flat 0 (x ∷ t-semi ∷ (s ++ t)) ≡ true = and-true (leb 0 40) _ h .1 in let b = its-room i (f .0) 0 t (and-true (leb 0 40) _ (flat-on 0 x (t-semi ∷ (s ++ t)) (name-plain x q) a) .1) in (b .0, files-room r (f .1) (b .1))
@@ -245,14 +273,18 @@ files-room (more-files {x = x} {s = s} {t = t} q i r) f h = let a : flat 0 (x �
 module _ (p : Prog) (gs : AllT (Good p) (all-tops p 0 0)) where
   few-fn : (f x : Name) (h : Fn) → fn-named p f x ≡ some h → length (h .params) ≤ 8
   few-fn f x h e = let r = some-then (resolve p f x) as-fn e in let o = fn-ok p (r .0) h (r .0 .is) refl (all-resolve p f x (r .0) gs (r .1)) (r .2) in leb→le (length (h .params)) 8 (subst T (sym (and-true (leb (length (h .params)) 8) _ o .0)) tt)
+
   few-head : (f : Name) (fs : List Name) (qs : List Param) → head-fn p f fs ≡ some qs → length qs ≤ 8
   few-head f [] qs e = absurd (none-some e)
   few-head f (x ∷ xs) qs e = let r = some-then (fn-named p f x) (λ h. some (h .params)) e in rw (← some-inj (r .2)) (few-fn f x (r .0) (r .1))
+
   module _ (f : Name) (g : Fn) where
     few-params : (x : Name) (qs : List Param) → params-of p f g x ≡ some qs → length qs ≤ 8
     few-params x qs e = let r = some-then (fn-named p f x) (λ h. some (h .params)) (not-local (is-local g x) _ e) in rw (← some-inj (r .2)) (few-fn f x (r .0) (r .1))
+
     few-table : (x : Name) (qs : List Param) → params-table p f g x ≡ some qs → length qs ≤ 8
     few-table x qs e = let r = some-then (resolve p f x) (λ t. on-some (as-table t) (λ fs. head-fn p (t .file) fs)) (not-local (is-local g x) _ e) in let q = some-then (as-table (r .0)) (λ fs. head-fn p (r .0 .file) fs) (r .2) in few-head (r .0 .file) (q .0) qs (q .2)
+
     few-arr : (e : Expr) (w : Bool) → names-arr p f g w e ≡ true → FewE e
     few-arr (var x) w h = tt
     few-arr (num n) w h = tt
@@ -265,9 +297,11 @@ module _ (p : Prog) (gs : AllT (Good p) (all-tops p 0 0)) where
     few-arr (call x es) w h = absurd (false≢true h)
     few-arr (by-table x e es) w h = absurd (false≢true h)
     few-arr input w h = tt
+
     few-arg : (e : Expr) (k : Kind) → fits-arg p f g e (okE p f g e) (some k) ≡ true → (okE p f g e ≡ true → FewE e) → FewE e
     few-arg e k-word o h = h o
     few-arg e (k-arr w) o h = few-arr e w o
+
     mutual
       few-E : (e : Expr) → okE p f g e ≡ true → FewE e
       few-E (num n) o = tt
@@ -281,11 +315,13 @@ module _ (p : Prog) (gs : AllT (Good p) (all-tops p 0 0)) where
       few-E (call x es) o = let q = opt-true (params-of p f g x) (λ qs. okEs p f g qs es) o in let r = few-Es es (q .0) (q .2) in (omega (arith, few-params x (q .0) (q .1), r .1), r .0)
       few-E (by-table x e es) o = let s = and-true (okE p f g e) (opt (params-table p f g x) false (λ qs. okEs p f g qs es)) o in let q = opt-true (params-table p f g x) (λ qs. okEs p f g qs es) (s .1) in let r = few-Es es (q .0) (q .2) in (few-E e (s .0), omega (arith, few-table x (q .0) (q .1), r .1), r .0)
       few-E input o = tt
+
       few-Es : (es : Exprs) (qs : List Param) → okEs p f g qs es ≡ true → FewEs es × (size es ≡ length qs)
       few-Es no [] o = (tt, refl)
       few-Es no (q ∷ qs) o = absurd (false≢true o)
       few-Es (and-then e es) [] o = absurd (false≢true o)
       few-Es (and-then e es) (q ∷ qs) o = let s = and-true (fits-arg p f g e (okE p f g e) (some (q .kind))) (okEs p f g qs es) o in let r = few-Es es qs (s .1) in ((few-arg e (q .kind) (s .0) (few-E e), r .0), ap suc (r .1))
+
     mutual
       few-S : (a : Stmt) (l : Bool) → okS p f g l a ≡ true → FewS a
       few-S (set1 x e) l o = few-E e (and-true _ (okE p f g e) o .1)
@@ -297,9 +333,11 @@ module _ (p : Prog) (gs : AllT (Good p) (all-tops p 0 0)) where
       few-S (ret1 e) l o = few-E e o
       few-S break1 l o = tt
       few-S next1 l o = tt
+
       few-B : (b : Block) (l : Bool) → okB p f g l b ≡ true → FewB b
       few-B end l o = tt
       few-B (seq1 a b) l o = let s = and-true _ _ o in (few-S a l (s .0), few-B b l (s .1))
+
   few-items : (f : Name) (is : List Item) → okIs p f is ≡ true → Each FewI is
   few-items f [] o = tt
   few-items f (i-word x ∷ is) o = (tt, few-items f is o)
@@ -308,12 +346,14 @@ module _ (p : Prog) (gs : AllT (Good p) (all-tops p 0 0)) where
   few-items f (i-table x fs ∷ is) o = (tt, few-items f is (and-true (okI p f (i-table x fs)) (okIs p f is) o .1))
   few-items f (i-fn g ∷ is) o = let s = and-true (okFn p f g) (okIs p f is) o in (few-B f g (g .body) false (body-ok p f g (s .0)), few-items f is (s .1))
   few-items f (i-use x ys ∷ is) o = (tt, few-items f is (and-true (okI p f (i-use x ys)) (okIs p f is) o .1))
+
   few-files : (fs : Prog) → okFs p fs ≡ true → Each (λ f. Each FewI (f .items)) fs
   few-files [] o = tt
   few-files (f ∷ fs) o = let s = and-true (once (names-in (f .items))) (okIs p (f .name) (f .items) && okFs p fs) o in let r = and-true (okIs p (f .name) (f .items)) (okFs p fs) (s .1) in (few-items (f .name) (f .items) (r .0), few-files fs (r .1))
 
 abbrev RoomT : Top → Type 0
 RoomT t = (g : Fn) → as-fn t ≡ some g → (Γ : Scope) → needB Γ (g .body) ≤ 731
+
 tops-room : (f : Name) (is : List Item) (w a : ℕ) → Each RoomI is → AllT RoomT (tops f is w a)
 tops-room f [] w a h = no-top
 tops-room f (i-word x ∷ is) w a h = and-top (λ g e. absurd (none-some e)) (tops-room f is (w + 1) a (h .1))
@@ -322,9 +362,11 @@ tops-room f (i-data d x ns ∷ is) w a h = and-top (λ g e. absurd (none-some e)
 tops-room f (i-table x fs ∷ is) w a h = and-top (λ g e. absurd (none-some e)) (tops-room f is w a (h .1))
 tops-room f (i-fn k ∷ is) w a h = and-top (λ g e Γ. subst (λ z. needB Γ (z .body) ≤ 731) (some-inj e) (h .0 Γ)) (tops-room f is w a (h .1))
 tops-room f (i-use x ys ∷ is) w a h = tops-room f is w a (h .1)
+
 all-room : (fs : Prog) (w a : ℕ) → Each (λ f. Each RoomI (f .items)) fs → AllT RoomT (all-tops fs w a)
 all-room [] w a h = no-top
 all-room (f ∷ fs) w a h = all-append _ _ (tops-room (f .name) (f .items) w a (h .0)) (all-room fs (w + words-in (f .items)) (a + length (arrays-in (f .items))) (h .1))
+
 funs-room : (p : Prog) (ts : List Top) → AllT RoomT ts → Each (λ g. g .places ≤ (g .params + g .vars) + 731) (sorted as-fn (λ t g. compile p (t .file) g) ts)
 funs-room p [] a = tt
 funs-room p (t ∷ ts) (and-top q a) = go (as-fn t) refl (funs-room p ts a)
@@ -332,6 +374,7 @@ funs-room p (t ∷ ts) (and-top q a) = go (as-fn t) refl (funs-room p ts a)
     go : (u : Option Fn) → as-fn t ≡ u → Each (λ g. g .places ≤ (g .params + g .vars) + 731) (sorted as-fn (λ t g. compile p (t .file) g) ts) → Each (λ g. g .places ≤ (g .params + g .vars) + 731) (opt u (sorted as-fn (λ t g. compile p (t .file) g) ts) (λ g. compile p (t .file) g ∷ sorted as-fn (λ t g. compile p (t .file) g) ts))
     go none e h = h
     go (some g) e h = let n = slot-count (g .params) (g .vars) (g .arrs) in let k = q g e (scope p (t .file) (slots-of g)) in (omega (arith, n .0, k), h)
+
 pub room-holds : Mid-room
 room-holds t p r =
     let o = t-true (ok p) (r .sound) in

@@ -56,6 +56,7 @@ module _ {P : MProg} {W : ℕ} {Q : Cfg → Result → Type 0} {D pc : ℕ} {j :
 
   pub r-table : {r : Result} {d i t k n h x : ℕ} {os : List Opnd} {hs xs as₁ : List ℕ} {H : MFn} (g : Fn) (vs : List Value) → nth (G .code) pc ≡ some (s-table d i t k n os) → ps i ≡ some x → nth (P .tables) t ≡ some hs → nth hs x ≡ some h → nth (P .funs) h ≡ some H → args ps k n ≡ some xs → arrs-at (j .arrs) os ≡ some as₁ → H .cost ≡ cost g → fresh (H .own) ≡ new-arrs (g .arrs) → Out P W Q (D - W) (mk (record { fn = h; arrs = as₁ ++ upto (length (s .arrays)) (H .own) }) 0 (entry H xs) (record { act = j; pc = suc pc; places = ps; dest = d } ∷ st) (enter g vs s)) r → Out P W Q D (mk j pc ps st s) r
   r-table g vs hc hx ht hl hh ha ho hq hn o = stepd (rw (hf, hc, hx, ht, hl, hh, ha, ho, hq, hn)) o
+
   pub r-table-trap : {d i t k n x : ℕ} {os : List Opnd} {hs : List ℕ} → nth (G .code) pc ≡ some (s-table d i t k n os) → ps i ≡ some x → nth (P .tables) t ≡ some hs → nth hs x ≡ none → Out P W Q D (mk j pc ps st s) (trap 1 s)
   r-table-trap hc hx ht hl = trapd (rw (hf, hc, hx, ht, hl))
 
@@ -64,15 +65,21 @@ module _ {P : MProg} {W : ℕ} {Q : Cfg → Result → Type 0} {D pc : ℕ} {j :
 
   pub r-in : {r : Result} {d x : ℕ} {xs : List ℕ} (t : State) → nth (G .code) pc ≡ some (s-in d) → s .ins ≡ x ∷ xs → t ≡ (record { words = s .words; arrays = s .arrays; vars = s .vars; ins = xs; outs = s .outs; held = s .held; calls = s .calls }) → Out P W Q (D - W) (mk j (suc pc) (upd ps d x) st t) r → Out P W Q D (mk j pc ps st s) r
   r-in t hc h e o = stepd (rw (hf, hc, h, e)) o
+
   pub r-in-trap : {d : ℕ} → nth (G .code) pc ≡ some (s-in d) → s .ins ≡ [] → Out P W Q D (mk j pc ps st s) (trap 3 s)
   r-in-trap hc h = trapd (rw (hf, hc, h))
+
   pub r-idx : {r : Result} {d u a i x : ℕ} {o : Opnd} {c : Cells} → nth (G .code) pc ≡ some (s-idx d o a) → ps a ≡ some i → arr-at (j .arrs) o ≡ some u → nth (s .arrays) u ≡ some c → nth (c .cells) i ≡ some x → Out P W Q (D - W) (mk j (suc pc) (upd ps d x) st s) r → Out P W Q D (mk j pc ps st s) r
   r-idx hc h ho k l z = stepd (rw (hf, hc, h, ho, k, l)) z
+
   pub r-idx-trap : {d u a i : ℕ} {o : Opnd} {c : Cells} → nth (G .code) pc ≡ some (s-idx d o a) → ps a ≡ some i → arr-at (j .arrs) o ≡ some u → nth (s .arrays) u ≡ some c → nth (c .cells) i ≡ none → Out P W Q D (mk j pc ps st s) (trap 1 s)
   r-idx-trap hc h ho k l = trapd (rw (hf, hc, h, ho, k, l))
+
   pub r-put : {r : Result} {w : Bool} {u a b i n x : ℕ} {o : Opnd} {c : Cells} → nth (G .code) pc ≡ some (s-put w o a b) → ps a ≡ some i → ps b ≡ some n → arr-at (j .arrs) o ≡ some u → nth (s .arrays) u ≡ some c → nth (c .cells) i ≡ some x → Out P W Q (D - W) (mk j (suc pc) ps st (with-arrays s (put (s .arrays) u (record { wide = c .wide; cells = put (c .cells) i (pick w n (n % 256)) })))) r → Out P W Q D (mk j pc ps st s) r
   r-put hc h g ho k l z = stepd (rw (hf, hc, h, g, ho, k, l)) z
+
   pub r-put-trap : {w : Bool} {u a b i n : ℕ} {o : Opnd} {c : Cells} → nth (G .code) pc ≡ some (s-put w o a b) → ps a ≡ some i → ps b ≡ some n → arr-at (j .arrs) o ≡ some u → nth (s .arrays) u ≡ some c → nth (c .cells) i ≡ none → Out P W Q D (mk j pc ps st s) (trap 1 s)
   r-put-trap hc h g ho k l = trapd (rw (hf, hc, h, g, ho, k, l))
+
   pub r-len : {r : Result} {d u : ℕ} {o : Opnd} {c : Cells} → nth (G .code) pc ≡ some (s-len d o) → arr-at (j .arrs) o ≡ some u → nth (s .arrays) u ≡ some c → Out P W Q (D - W) (mk j (suc pc) (upd ps d (length (c .cells))) st s) r → Out P W Q D (mk j pc ps st s) r
   r-len hc ho k z = stepd (rw (hf, hc, ho, k)) z

@@ -23,6 +23,7 @@ pub record Env : Type 0 where
   -- the number of the function that a name stands for in a file
   pub no : Name → Name → ℕ
   pub nos : Name → List Name → List ℕ
+
 -- a function at work: its file, its names, its number and arrays, its code; the widths of all arrays
 pub record Fun : Type 0 where
   pub file : Name
@@ -45,9 +46,11 @@ abbrev mutual
   wE (call x es) = suc (wEs es)
   wE (by-table x e es) = suc (wE e + wEs es)
   wE input = 1
+
   pub wEs : Exprs → ℕ
   wEs no = 1
   wEs (and-then e es) = suc (wE e + wEs es)
+
 abbrev mutual
   pub wS : Stmt → ℕ
   wS (set1 x e) = suc (wE e)
@@ -59,6 +62,7 @@ abbrev mutual
   wS (ret1 e) = suc (wE e)
   wS break1 = 1
   wS next1 = 1
+
   pub wB : Block → ℕ
   wB end = 1
   wB (seq1 s b) = suc (wS s + wB b)
@@ -67,14 +71,18 @@ abbrev mutual
 pub data WfVar (v : Env) (c : Fun) (x : Name) : Type 0 where
   own : (k : ℕ) → find (c .Γ .slots) x 0 0 ≡ some (r-word k) → WfVar v c x
   top : (t : Top) (i : ℕ) → find (c .Γ .slots) x 0 0 ≡ none → resolve (v .p) (c .file) x ≡ some t → as-word t ≡ some i → c .Γ .top x ≡ some t → i < v .P .words → WfVar v c x
+
 pub data WfArr (v : Env) (c : Fun) (x : Name) (w : Bool) : Type 0 where
   own-arr : (k : ℕ) → find (c .Γ .slots) x 0 0 ≡ some (r-arr k w) → WfArr v c x w
   top-arr : (t : Top) (a : ℕ) → find (c .Γ .slots) x 0 0 ≡ none → resolve (v .p) (c .file) x ≡ some t → as-word t ≡ none → as-arr t ≡ some a → c .Γ .top x ≡ some t → is-wide (t .is) ≡ w → nth (wides (v .P .arrays)) a ≡ some w → WfArr v c x w
+
 -- a function that a name stands for in a file
 abbrev pub Calls : Env → Name → Name → List Kind → Type 0
 Calls v f x ks = (t : Top) × (g : Fn) × (resolve (v .p) f x ≡ some t) × (as-fn t ≡ some g) × (kinds (g .params) ≡ ks)
+
 abbrev pub Tables : Env → Fun → Name → List Kind → Type 0
 Tables v c x ks = (t : Top) × (fs : List Name) × (resolve (v .p) (c .file) x ≡ some t) × (as-table t ≡ some fs) × (nth (v .P .tables) (c .Γ .table-no x) ≡ some (v .nos (t .file) fs)) × ((i : ℕ) (f : Name) → nth fs i ≡ some f → Calls v (t .file) f ks)
+
 abbrev mutual
   pub WfE : Env → Fun → Expr → Type 0
   WfE v c (num n) = n < all
@@ -88,12 +96,14 @@ abbrev mutual
   WfE v c (call x es) = (ks : List Kind) × Calls v (c .file) x ks × (c .Γ .fn-no x ≡ v .no (c .file) x) × WfEs v c es ks
   WfE v c (by-table x e es) = (ks : List Kind) × Tables v c x ks × WfE v c e × WfEs v c es ks
   WfE v c input = Unit {0}
+
   pub WfEs : Env → Fun → Exprs → List Kind → Type 0
   WfEs v c no [] = Unit {0}
   WfEs v c no (k ∷ ks) = ⊥
   WfEs v c (and-then e es) [] = ⊥
   WfEs v c (and-then e es) (k-word ∷ ks) = (arr-arg (c .Γ) e ≡ none) × WfE v c e × WfEs v c es ks
   WfEs v c (and-then e es) (k-arr w ∷ ks) = ((x : Name) × (e ≡ var x) × WfArr v c x w) × WfEs v c es ks
+
 -- l: within a loop
 abbrev mutual
   pub WfS : Env → Fun → Bool → Stmt → Type 0
@@ -106,6 +116,7 @@ abbrev mutual
   WfS v c l (ret1 e) = WfE v c e
   WfS v c l break1 = l ≡ true
   WfS v c l next1 = l ≡ true
+
   pub WfB : Env → Fun → Bool → Block → Type 0
   WfB v c l end = Unit {0}
   WfB v c l (seq1 s b) = WfS v c l s × WfB v c l b
@@ -122,6 +133,7 @@ pub record Compiled (v : Env) (g : Fn) (c : Fun) : Type 0 where
   pub costs : c .G .cost ≡ cost g
   pub wf : WfB v c false (g .body)
   pub light : suc (suc (wB (g .body))) ≤ v .W
+
 -- where a call leads, with any arrays
 pub record Linked (v : Env) : Type 0 where
   pub some-step : 1 ≤ v .W
@@ -138,24 +150,30 @@ pub record Pre (v : Env) (c : Fun) (d : ℕ) (ps : Places) (s : State) : Type 0 
   pub words : length (s .words) ≡ v .P .words
   pub arrays : wides (s .arrays) ≡ c .ws
   pub base : (a : ℕ) (w : Bool) → nth (wides (v .P .arrays)) a ≡ some w → nth (c .ws) a ≡ some w
+
 -- what an expression leaves alone
 pub record Stays (s s1 : State) : Type 0 where
   pub vars : s1 .vars ≡ s .vars
   pub held : s1 .held ≡ s .held
   pub words : length (s1 .words) ≡ length (s .words)
   pub arrays : wides (s1 .arrays) ≡ wides (s .arrays)
+
 pub stays-refl : (s : State) → Stays s s
 stays-refl s = record { vars = refl; held = refl; words = refl; arrays = refl }
+
 pub stays-trans : {s s1 s2 : State} → Stays s s1 → Stays s1 s2 → Stays s s2
 stays-trans a b = record { vars = b .vars ∙ a .vars; held = b .held ∙ a .held; words = b .words ∙ a .words; arrays = b .arrays ∙ a .arrays }
+
 pub pre-on : {v : Env} {c : Fun} {d : ℕ} {ps : Places} {s s1 : State} (k : ℕ) (ps1 : Places) → Pre v c d ps s → Stays s s1 → Keeps d ps ps1 → d ≤ k → Pre v c k ps1 s1
 pre-on {c = c} {d = d} {ps = ps} {s = s} {s1 = s1} k ps1 h y e l = record { here = h .here; room = omega (arith, h .room); vars = rw (y .vars) (vars-keep (c .j .arrs) (c .ws) (c .Γ .slots) (s .vars) 0 0 d ps ps1 e (omega (arith, h .room)) (h .vars)); words = y .words ∙ h .words; arrays = y .arrays ∙ h .arrays; base = h .base }
 
 -- behind an expression: its value is in place d, step q comes next
 pub data QE (j : Act) (q d : ℕ) (ps : Places) (st : List Saved) (s : State) : Cfg → Result → Type 0 where
   q-val : (x : ℕ) (s1 : State) (ps1 : Places) → Stays s s1 → Keeps d ps ps1 → ps1 d ≡ some x → QE j q d ps st s (mk j q ps1 st s1) (val (word x) s1)
+
 pub e-done : {P : MProg} {W D : ℕ} {j : Act} {d : ℕ} {ps ps1 : Places} {st : List Saved} {s s1 : State} {x : ℕ} (i q : ℕ) → i ≡ q → Stays s s1 → Keeps d ps ps1 → ps1 d ≡ some x → Out P W (QE j q d ps st s) D (mk j i ps1 st s1) (val (word x) s1)
 e-done i q e y k h = rw e (done (q-val _ _ _ y k h))
+
 pub on-value : {P : MProg} {W D : ℕ} {j : Act} {q d : ℕ} {ps : Places} {st : List Saved} {s : State} {m : Cfg} {r : Result} {Q : Cfg → Result → Type 0} (f : Value → State → Result) → Out P W (QE j q d ps st s) D m r → ((x : ℕ) (s1 : State) (ps1 : Places) → Stays s s1 → Keeps d ps ps1 → ps1 d ≡ some x → Out P W Q D (mk j q ps1 st s1) (f (word x) s1)) → Out P W Q D m (on-val r f)
 on-value {P} {W} {D} {j} {q} {d} {ps} {st} {s} {m} {r} {Q} f o k = bind (λ r. on-val r f) (record { traps = λ c s. refl; spents = λ s. refl }) go o
   where
@@ -165,9 +183,11 @@ on-value {P} {W} {D} {j} {q} {d} {ps} {st} {s} {m} {r} {Q} f o k = bind (λ r. o
 -- arguments, of kinds ks, behind the values vs: n words stand from place d on, and arrays are os
 pub data QEs (j : Act) (q d n : ℕ) (os : List Opnd) (ks : List Kind) (ws : List Bool) (vs : List Value) (ps : Places) (st : List Saved) (s : State) : Cfg → Result → Type 0 where
   q-vals : (us : List Value) (s1 : State) (ps1 : Places) → HasAll ws us ks → Stays s s1 → Keeps d ps ps1 → args ps1 d n ≡ some (nums us) → arrs-at (j .arrs) os ≡ some (arrs-of us) → QEs j q d n os ks ws vs ps st s (mk j q ps1 st s1) (vals (vs ++ us) s1)
+
 -- behind a call: back in the caller's frame
 pub data QC (fr : Saved) (st : List Saved) (s : State) : Cfg → Result → Type 0 where
   q-call : (x : ℕ) (s1 : State) → Stays s s1 → QC fr st s (mk (fr .act) (fr .pc) (upd (fr .places) (fr .dest) x) st s1) (val (word x) s1)
+
 -- behind statements: on at q, at brk or at nxt; or before a return
 pub data QS (v : Env) (c : Fun) (l : Bool) (d q brk nxt : ℕ) (st : List Saved) (s : State) : Cfg → Result → Type 0 where
   q-fine : (s1 : State) (ps1 : Places) → Pre v c d ps1 s1 → s1 .held ≡ s .held → QS v c l d q brk nxt st s (mk (c .j) q ps1 st s1) (fine s1)
@@ -180,14 +200,17 @@ on-values {P} {W} {D} {j} {q} {d} {n} {os} {ks} {ws} {vs} {ps} {st} {s} {m} {r} 
   where
     go : (m1 : Cfg) (r1 : Result) → QEs j q d n os ks ws vs ps st s m1 r1 → Out P W Q D m1 (on-vals r1 f)
     go m1 r1 (q-vals us s1 ps1 a y e h g) = z us s1 ps1 a y e h g
+
 -- the same, where the result isn't looked at
 pub es-then : {P : MProg} {W D : ℕ} {j : Act} {q d n : ℕ} {os : List Opnd} {ks : List Kind} {ws : List Bool} {vs : List Value} {ps : Places} {st : List Saved} {s : State} {m : Cfg} {r : Result} {Q : Cfg → Result → Type 0} → Out P W (QEs j q d n os ks ws vs ps st s) D m r → ((us : List Value) (s1 : State) (ps1 : Places) → HasAll ws us ks → Stays s s1 → Keeps d ps ps1 → args ps1 d n ≡ some (nums us) → arrs-at (j .arrs) os ≡ some (arrs-of us) → Out P W Q D (mk j q ps1 st s1) (vals (vs ++ us) s1)) → Out P W Q D m r
 es-then {P} {W} {D} {j} {q} {d} {n} {os} {ks} {ws} {vs} {ps} {st} {s} {m} {r} {Q} o z = bind (λ r. r) (record { traps = λ c s. refl; spents = λ s. refl }) go o
   where
     go : (m1 : Cfg) (r1 : Result) → QEs j q d n os ks ws vs ps st s m1 r1 → Out P W Q D m1 r1
     go m1 r1 (q-vals us s1 ps1 a y e h g) = z us s1 ps1 a y e h g
+
 pub es-done : {P : MProg} {W D : ℕ} {j : Act} {d n : ℕ} {os : List Opnd} {ks : List Kind} {ws : List Bool} {vs : List Value} {ps ps1 : Places} {st : List Saved} {s s1 : State} (i q : ℕ) (us : List Value) → i ≡ q → HasAll ws us ks → Stays s s1 → Keeps d ps ps1 → args ps1 d n ≡ some (nums us) → arrs-at (j .arrs) os ≡ some (arrs-of us) → Out P W (QEs j q d n os ks ws vs ps st s) D (mk j i ps1 st s1) (vals (vs ++ us) s1)
 es-done i q us e a y k h g = rw e (done (q-vals us _ _ a y k h g))
+
 pub on-call : {P : MProg} {W D : ℕ} {fr : Saved} {st : List Saved} {s : State} {m : Cfg} {r : Result} {Q : Cfg → Result → Type 0} → Out P W (QC fr st s) D m r → ((x : ℕ) (s1 : State) → Stays s s1 → Out P W Q D (mk (fr .act) (fr .pc) (upd (fr .places) (fr .dest) x) st s1) (val (word x) s1)) → Out P W Q D m r
 on-call {P} {W} {D} {fr} {st} {s} {m} {r} {Q} o k = bind (λ r. r) (record { traps = λ c s. refl; spents = λ s. refl }) go o
   where
@@ -204,20 +227,26 @@ pub record ArrAt (v : Env) (c : Fun) (x : Name) (w : Bool) (s : State) : Type 0 
   pub at : arr-at (c .j .arrs) o ≡ some a
   pub wide : wide-of (c .Γ) x ≡ w
   pub width : nth (c .ws) a ≡ some w
+
 pub arr-there : {v : Env} {c : Fun} {d : ℕ} {ps : Places} {s : State} (x : Name) (w : Bool) → Pre v c d ps s → WfArr v c x w → ArrAt v c x w s
 arr-there {v} {c} {d} {ps} {s} x w pre (own-arr k e) = let g = arr-get (c .j .arrs) (c .ws) (c .Γ .slots) (s .vars) ps x (pre .vars) k w e in record { a = g .0; o = o-own k; found = rw (g .1); got = rw (g .1); op = rw e; at = g .2; wide = rw e; width = g .3 }
 arr-there {v} {c} {d} {ps} {s} x w pre (top-arr t a e r nw ar gt iw h) = let b = var-none (c .j .arrs) (c .ws) (c .Γ .slots) (s .vars) ps x (pre .vars) e in record { a = a; o = o-top a; found = rw (b, r, nw, ar); got = rw (b, r, nw, ar); op = rw (e, gt, ar); at = refl; wide = rw (e, gt) iw; width = pre .base a w h }
+
 pub cells-there : {v : Env} {c : Fun} {d : ℕ} {ps : Places} {s : State} {x : Name} {w : Bool} → Pre v c d ps s → (q : ArrAt v c x w s) → (cs : Cells) × (nth (s .arrays) (q .a) ≡ some cs) × (cs .wide ≡ w)
 cells-there {s = s} {w = w} pre q = wides-nth (s .arrays) (q .a) w (ap (λ l. nth l (q .a)) (pre .arrays) ∙ q .width)
 
 abbrev pub SimE : Env → ℕ → Type 0
 SimE v n = (c : Fun) (e : Expr) (d pc : ℕ) (ps : Places) (st : List Saved) (s : State) → Pre v c d ps s → WfE v c e → At (c .G .code) pc (genE (c .Γ) e d pc) → Out (v .P) (v .W) (QE (c .j) (pc + sizeE (c .Γ) e) d ps st s) (n - wE e) (mk (c .j) pc ps st s) (run (v .p) n (c .file) (t-e e) s)
+
 abbrev pub SimEs : Env → ℕ → Type 0
 SimEs v n = (c : Fun) (es : Exprs) (ks : List Kind) (d pc : ℕ) (ps : Places) (st : List Saved) (s : State) (vs : List Value) → Pre v c d ps s → WfEs v c es ks → At (c .G .code) pc (genEs (c .Γ) es d pc) → Out (v .P) (v .W) (QEs (c .j) (pc + sizeEs (c .Γ) es) d (count (c .Γ) es) (opnds (c .Γ) es) ks (c .ws) vs ps st s) (n - wEs es) (mk (c .j) pc ps st s) (run (v .p) n (c .file) (t-es es vs) s)
+
 abbrev pub SimS : Env → ℕ → Type 0
 SimS v n = (c : Fun) (a : Stmt) (l : Bool) (d brk nxt pc : ℕ) (ps : Places) (st : List Saved) (s : State) → Pre v c d ps s → WfS v c l a → At (c .G .code) pc (genS (c .Γ) a d brk nxt pc) → Out (v .P) (v .W) (QS v c l d (pc + sizeS (c .Γ) a) brk nxt st s) (n - wS a) (mk (c .j) pc ps st s) (run (v .p) n (c .file) (t-s a) s)
+
 abbrev pub SimB : Env → ℕ → Type 0
 SimB v n = (c : Fun) (b : Block) (l : Bool) (d brk nxt pc : ℕ) (ps : Places) (st : List Saved) (s : State) → Pre v c d ps s → WfB v c l b → At (c .G .code) pc (genB (c .Γ) b d brk nxt pc) → Out (v .P) (v .W) (QS v c l d (pc + sizeB (c .Γ) b) brk nxt st s) (n - wB b) (mk (c .j) pc ps st s) (run (v .p) n (c .file) (t-b b) s)
+
 -- a function at work, called in state s with the values vs
 pub record Called (v : Env) (g : Fn) (c : Fun) (vs : List Value) (s : State) : Type 0 where
   pub fn : Compiled v g c
@@ -226,8 +255,10 @@ pub record Called (v : Env) (g : Fn) (c : Fun) (vs : List Value) (s : State) : T
   pub base : (a : ℕ) (w : Bool) → nth (wides (v .P .arrays)) a ≡ some w → nth (wides (s .arrays)) a ≡ some w
   pub arrs : c .j .arrs ≡ arrs-of vs ++ upto (length (s .arrays)) (c .G .own)
   pub ws : c .ws ≡ wides (s .arrays ++ new-arrs (g .arrs))
+
 abbrev pub SimC : Env → ℕ → Type 0
 SimC v n = 1 ≤ n → (c : Fun) (g : Fn) (vs : List Value) (fr : Saved) (st : List Saved) (s : State) → Called v g c vs s → Out (v .P) (v .W) (QC fr st s) (n - suc (wB (g .body))) (mk (c .j) 0 (entry (c .G) (nums vs)) (fr ∷ st) (enter g vs s)) (run (v .p) n (c .file) (t-call g vs) s)
+
 pub record Sim (v : Env) (n : ℕ) : Type 0 where
   pub e : SimE v n
   pub es : SimEs v n

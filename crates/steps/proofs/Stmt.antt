@@ -29,6 +29,7 @@ mutual
   len-S (ret1 e) Γ d k m pc = let a = len-V e Γ d pc in simp (length-append, a) (omega arith)
   len-S break1 Γ d k m pc = refl
   len-S next1 Γ d k m pc = refl
+
   pub len-B : (b : Block) (Γ : Scope) (d k m pc : ℕ) → length (genB Γ b d k m pc) ≡ sizeB Γ b
   len-B end Γ d k m pc = refl
   len-B (seq1 a b) Γ d k m pc = simp (length-append, len-S a, len-B b)
@@ -45,12 +46,14 @@ s-later {v} {c} {l} {D} {d} {brk} {nxt} {st} {s} {s1} i q e k o = bind (λ r. r)
     go m1 r1 (q-broke s2 ps2 a h z) = done (q-broke s2 ps2 a h (z ∙ k))
     go m1 r1 (q-next s2 ps2 a h z) = done (q-next s2 ps2 a h (z ∙ k))
     go m1 r1 (q-gives x a u s2 ps2 hc hx h z) = done (q-gives x a u s2 ps2 hc hx h (z ∙ k))
+
 -- then: what follows where they are through; F passes the rest on
 pub record PassesS (F : Result → Result) : Type 0 where
   pub pass : Passes F
   pub brokes : (s : State) → F (broke s) ≡ broke s
   pub nexts : (s : State) → F (goes-on s) ≡ goes-on s
   pub giveses : (x : Value) (s : State) → F (gives x s) ≡ gives x s
+
 pub on-through : {v : Env} {c : Fun} {l : Bool} {D d brk nxt : ℕ} {st : List Saved} {s s1 : State} {m : Cfg} {r : Result} (i q : ℕ) (F : Result → Result) → PassesS F → s1 .held ≡ s .held → Out (v .P) (v .W) (QS v c l d i brk nxt st s1) D m r → ((s2 : State) (ps2 : Places) → Pre v c d ps2 s2 → s2 .held ≡ s .held → Out (v .P) (v .W) (QS v c l d q brk nxt st s) D (mk (c .j) i ps2 st s2) (F (fine s2))) → Out (v .P) (v .W) (QS v c l d q brk nxt st s) D m (F r)
 on-through {v} {c} {l} {D} {d} {brk} {nxt} {st} {s} {s1} i q F pf k o f = bind F (pf .pass) go o
   where
@@ -59,16 +62,21 @@ on-through {v} {c} {l} {D} {d} {brk} {nxt} {st} {s} {s1} i q F pf k o f = bind F
     go m1 r1 (q-broke s2 ps2 a h z) = rw (pf .brokes s2) (done (q-broke s2 ps2 a h (z ∙ k)))
     go m1 r1 (q-next s2 ps2 a h z) = rw (pf .nexts s2) (done (q-next s2 ps2 a h (z ∙ k)))
     go m1 r1 (q-gives x a u s2 ps2 hc hx h z) = rw (pf .giveses (word x) s2) (done (q-gives x a u s2 ps2 hc hx h (z ∙ k)))
+
 pub id-passes : PassesS (λ r. r)
 id-passes = record { pass = record { traps = λ c s. refl; spents = λ s. refl }; brokes = λ s. refl; nexts = λ s. refl; giveses = λ x s. refl }
+
 pub fine-passes : (f : State → Result) → PassesS (λ r. on-fine r f)
 fine-passes f = record { pass = record { traps = λ c s. refl; spents = λ s. refl }; brokes = λ s. refl; nexts = λ s. refl; giveses = λ x s. refl }
+
 pub length-put : {A : Type 0} (ws : List A) (i : ℕ) (x : A) → length (put ws i x) ≡ length ws
 length-put [] i x = refl
 length-put (w ∷ ws) zero x = refl
 length-put (w ∷ ws) (suc i) x = ap suc (length-put ws i x)
+
 pub behind-B : (c : List Step) (Γ : Scope) (b : Block) (d k m pc : ℕ) (ys : List Step) → At c pc (genB Γ b d k m pc ++ ys) → At c (pc + sizeB Γ b) ys
 behind-B c Γ b d k m pc ys h = at-right c pc (genB Γ b d k m pc) ys (sizeB Γ b) (len-B b Γ d k m pc) h
+
 pub front-B : (c : List Step) (Γ : Scope) (b : Block) (d k m pc : ℕ) (ys : List Step) → At c pc (genB Γ b d k m pc ++ ys) → At c pc (genB Γ b d k m pc)
 front-B c Γ b d k m pc ys h = at-left c pc (genB Γ b d k m pc) ys h
 
@@ -122,8 +130,10 @@ module _ (v : Env) (n : ℕ) (ih : Sim v n) (c : Fun) (l : Bool) (d brk nxt pc :
     where
       step : Step
       step = s-put (wide-of (c .Γ) x) (the-arr (c .Γ) x) (at-place (c .Γ) i d) (at-place (c .Γ) e (suc d))
+
       code : nth (c .G .code) ((pc + sizeV (c .Γ) i) + sizeV (c .Γ) e) ≡ some step
       code = behind-V (c .G .code) (c .Γ) e (suc d) (pc + sizeV (c .Γ) i) (step ∷ []) (behind-V (c .G .code) (c .Γ) i d pc (genV (c .Γ) e (suc d) (pc + sizeV (c .Γ) i) ++ (step ∷ [])) at) .0
+
       last : (j z : ℕ) (s2 : State) (ps2 : Places) → Pre v c d ps2 s2 → s2 .held ≡ s .held → ps2 (at-place (c .Γ) i d) ≡ some j → ps2 (at-place (c .Γ) e (suc d)) ≡ some z → (a : ArrAt v c x (w .0 .0) s2) (cs : Cells) → nth (s2 .arrays) (a .a) ≡ some cs → wide-of (c .Γ) x ≡ cs .wide → (o : Option ℕ) → nth (cs .cells) j ≡ o → Out (v .P) (v .W) (QS v c l d (pc + sizeS (c .Γ) (store1 x i e)) brk nxt st s) (suc n - wS (store1 x i e)) (mk (c .j) ((pc + sizeV (c .Γ) i) + sizeV (c .Γ) e) ps2 st s2) (opt o (trap 1 s2) (λ old. fine (with-arrays s2 (put (s2 .arrays) (a .a) (record { wide = cs .wide; cells = put (cs .cells) j (pick (cs .wide) z (z % 256)) })))))
       last j z s2 ps2 q y h h2 a cs hc hw none u = r-put-trap (pre .here) (rw (a .op) at code) h h2 (a .at) hc u
       last j z s2 ps2 q y h h2 a cs hc hw (some o) u = r-put (pre .here) (rw (hw, a .op) at code) h h2 (a .at) hc u (s-fine _ _ (omega arith) (record { here = q .here; room = q .room; vars = q .vars; words = q .words; arrays = wides-put (s2 .arrays) (a .a) cs _ hc refl ∙ q .arrays; base = q .base }) y)
@@ -139,8 +149,8 @@ module _ (v : Env) (n : ℕ) (ih : Sim v n) (c : Fun) (l : Bool) (d brk nxt pc :
           z : suc (suc (pc + sizeE (c .Γ) e) + sizeB (c .Γ) a) ≡ suc (suc (pc + sizeE (c .Γ) e + sizeB (c .Γ) a))
           z = omega arith
       next x s1 ps1 p1 y false =
-        on-through _ _ (λ r. r) id-passes y (less _ (omega arith) (ih .b c a l d brk nxt _ ps1 st s1 p1 (w .1) (front-B _ _ a d brk nxt _ _ (behind _ _ e d pc _ at .1)))) λ s2 ps2 p2 y2.
-        r-jump (pre .here) (behind-B _ _ a d brk nxt _ _ (behind _ _ e d pc _ at .1) .0) (s-fine _ _ refl p2 y2)
+          on-through _ _ (λ r. r) id-passes y (less _ (omega arith) (ih .b c a l d brk nxt _ ps1 st s1 p1 (w .1) (front-B _ _ a d brk nxt _ _ (behind _ _ e d pc _ at .1)))) λ s2 ps2 p2 y2.
+          r-jump (pre .here) (behind-B _ _ a d brk nxt _ _ (behind _ _ e d pc _ at .1) .0) (s-fine _ _ refl p2 y2)
 
   pub sim-while : 1 ≤ v .W → (e : Expr) (b : Block) → Goal (while1 e b)
   sim-while lw e b w at =
@@ -152,6 +162,7 @@ module _ (v : Env) (n : ℕ) (ih : Sim v n) (c : Fun) (l : Bool) (d brk nxt pc :
       again m1 r1 s1 y (q-broke s2 ps2 a p2 z) = s-fine _ _ refl p2 (z ∙ y)
       again m1 r1 s1 y (q-next s2 ps2 a p2 z) = s-later _ _ refl (z ∙ y) (less _ (omega arith) (ih .s c (while1 e b) l d brk nxt pc ps2 st s2 p2 w at))
       again m1 r1 s1 y (q-gives x a i s2 ps2 hc hx p2 z) = done (q-gives x a i s2 ps2 hc hx p2 (z ∙ y))
+
       next : (x : ℕ) (s1 : State) (ps1 : Places) → Pre v c d ps1 s1 → s1 .held ≡ s .held → (t : Bool) → Out (v .P) (v .W) (QS v c l d (pc + sizeS (c .Γ) (while1 e b)) brk nxt st s) ((suc n - wS (while1 e b)) - v .W) (mk (c .j) (pick t (pc + sizeS (c .Γ) (while1 e b)) (suc (pc + sizeE (c .Γ) e))) ps1 st s1) (either t fine (λ s0. on-round (run (v .p) n (c .file) (t-b b) s0) (λ s2. run (v .p) n (c .file) (t-s (while1 e b)) s2)) s1)
       next x s1 ps1 p1 y true = s-fine _ _ refl p1 y
       next x s1 ps1 p1 y false = bind (λ r. on-round r (λ s2. run (v .p) n (c .file) (t-s (while1 e b)) s2)) (record { traps = λ c s. refl; spents = λ s. refl }) (λ m1 r1 q. again m1 r1 s1 y q) (less _ (omega arith) (ih .b c b true d _ _ _ ps1 st s1 p1 (w .1) (front-B _ _ b d _ _ _ _ (behind _ _ e d pc _ at .1))))

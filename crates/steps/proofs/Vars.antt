@@ -18,13 +18,17 @@ use Rattle.steps.specs.Generate.{Slot, w-slot, a-slot, Ref, r-word, r-arr, fin
 pub upd-same : (ps : Places) (d x : ℕ) → upd ps d x d ≡ some x
 unfolding upd
 upd-same ps d x = rw (eq-eqb d d refl)
+
 pub upd-other : (ps : Places) (d x i : ℕ) → i ≢ d → upd ps d x i ≡ ps i
 unfolding upd
 upd-other ps d x i h = rw (ne-eqb i d h)
+
 pub none-some : {A : Type 0} {x : A} → none ≡ some x → ⊥
 none-some e = let z : _≡_ {A = ℕ} 0 1 = cc in omega arith
+
 pub some-inj : {A : Type 0} {x y : A} → some x ≡ some y → x ≡ y
 some-inj e = cc
+
 pub same-true : (x y : Name) → same x y ≡ true → x ≡ y
 same-true [] [] h = refl
 same-true [] (y ∷ ys) h = cc
@@ -34,6 +38,7 @@ same-true (x ∷ xs) (y ∷ ys) h = go (eqb x y) refl h (same-true xs ys)
     go : (b : Bool) → eqb x y ≡ b → (b && same xs ys) ≡ true → (same xs ys ≡ true → xs ≡ ys) → (x ∷ xs) ≡ (y ∷ ys)
     go true e k ih = let a = eqb-true x y e in let c = ih k in cc
     go false e k ih = cc
+
 -- a test that both sides make
 pub pick2 : {A C : Type 0} (P : A → C → Type 0) (t : Bool) {a b : A} {c d : C} → P a c → P b d → P (pick t a b) (pick t c d)
 pick2 P true h g = h
@@ -54,6 +59,7 @@ module _ (as₁ : List ℕ) (ws : List Bool) where
   Vars (a-slot x w ∷ xs) [] i j ps = ⊥
   Vars (w-slot x ∷ xs) (b ∷ bs) i j ps = (b .name ≡ x) × ((n : ℕ) × (b .val ≡ word n) × (ps i ≡ some n)) × Vars xs bs (suc i) j ps
   Vars (a-slot x w ∷ xs) (b ∷ bs) i j ps = (b .name ≡ x) × ((a : ℕ) × (b .val ≡ array a) × (nth as₁ j ≡ some a) × (nth ws a ≡ some w)) × Vars xs bs i (suc j) ps
+
   -- what a name's place holds
   abbrev pub Own : Places → Option Ref → Option Value → Type 0
   Own ps none none = Unit {0}
@@ -73,6 +79,7 @@ module _ (as₁ : List ℕ) (ws : List Bool) where
   vars-keep (a-slot x w ∷ xs) [] i j d ps qs k h v = v
   vars-keep (w-slot x ∷ xs) (b ∷ bs) i j d ps qs k h v = (v .0, (v .1 .0, v .1 .1, k i (omega arith) ∙ v .1 .2), vars-keep xs bs (suc i) j d ps qs k (omega arith) (v .2))
   vars-keep (a-slot x w ∷ xs) (b ∷ bs) i j d ps qs k h v = (v .0, v .1, vars-keep xs bs i (suc j) d ps qs k h (v .2))
+
   -- a place before them
   pub vars-out : (xs : List Slot) (bs : List Bind) (i j d : ℕ) (ps : Places) (n : ℕ) → d < i → Vars as₁ ws xs bs i j ps → Vars as₁ ws xs bs i j (upd ps d n)
   vars-out [] [] i j d ps n h v = tt
@@ -81,6 +88,7 @@ module _ (as₁ : List ℕ) (ws : List Bool) where
   vars-out (a-slot x w ∷ xs) [] i j d ps n h v = v
   vars-out (w-slot x ∷ xs) (b ∷ bs) i j d ps n h v = (v .0, (v .1 .0, v .1 .1, upd-other ps d n i (omega arith) ∙ v .1 .2), vars-out xs bs (suc i) j d ps n (omega arith) (v .2))
   vars-out (a-slot x w ∷ xs) (b ∷ bs) i j d ps n h v = (v .0, v .1, vars-out xs bs i (suc j) d ps n h (v .2))
+
   pub var-at : (xs : List Slot) (bs : List Bind) (i j : ℕ) (ps : Places) (x : Name) → Vars as₁ ws xs bs i j ps → Own as₁ ws ps (find xs x i j) (getB bs x)
   var-at [] [] i j ps x v = tt
   var-at [] (b ∷ bs) i j ps x v = absurd v
@@ -88,27 +96,35 @@ module _ (as₁ : List ℕ) (ws : List Bool) where
   var-at (a-slot y w ∷ ys) [] i j ps x v = absurd v
   var-at (w-slot y ∷ ys) (b ∷ bs) i j ps x v = rw (v .0) (pick2 (Own as₁ ws ps) (same y x) (v .1) (var-at ys bs (suc i) j ps x (v .2)))
   var-at (a-slot y w ∷ ys) (b ∷ bs) i j ps x v = rw (v .0) (pick2 (Own as₁ ws ps) (same y x) (v .1) (var-at ys bs i (suc j) ps x (v .2)))
+
   word-own : (ps : Places) (k : ℕ) (o : Option Value) → Own as₁ ws ps (some (r-word k)) o → (n : ℕ) × (o ≡ some (word n)) × (ps k ≡ some n)
   word-own ps k none v = absurd v
   word-own ps k (some u) v = (v .0, ap some (v .1), v .2)
+
   arr-own1 : (ps : Places) (k : ℕ) (w : Bool) (o : Option Value) → Own as₁ ws ps (some (r-arr k w)) o → (a : ℕ) × (o ≡ some (array a)) × (nth as₁ k ≡ some a) × (nth ws a ≡ some w)
   arr-own1 ps k w none v = absurd v
   arr-own1 ps k w (some u) v = (v .0, ap some (v .1), v .2, v .3)
+
   none-own : (ps : Places) (o : Option Value) → Own as₁ ws ps none o → o ≡ none
   none-own ps none v = refl
   none-own ps (some u) v = absurd v
+
   module _ (xs : List Slot) (bs : List Bind) (ps : Places) (x : Name) (v : Vars as₁ ws xs bs 0 0 ps) where
     pub var-get : (k : ℕ) → find xs x 0 0 ≡ some (r-word k) → (n : ℕ) × (getB bs x ≡ some (word n)) × (ps k ≡ some n)
     var-get k e = word-own ps k (getB bs x) (subst (λ o. Own as₁ ws ps o (getB bs x)) e (var-at xs bs 0 0 ps x v))
+
     pub arr-get : (k : ℕ) (w : Bool) → find xs x 0 0 ≡ some (r-arr k w) → (a : ℕ) × (getB bs x ≡ some (array a)) × (nth as₁ k ≡ some a) × (nth ws a ≡ some w)
     arr-get k w e = arr-own1 ps k w (getB bs x) (subst (λ o. Own as₁ ws ps o (getB bs x)) e (var-at xs bs 0 0 ps x v))
+
     pub var-none : find xs x 0 0 ≡ none → getB bs x ≡ none
     var-none e = none-own ps (getB bs x) (subst (λ o. Own as₁ ws ps o (getB bs x)) e (var-at xs bs 0 0 ps x v))
 
 word-is : {a b : ℕ} → some (r-word a) ≡ some (r-word b) → a ≡ b
 word-is e = cc
+
 arr-word : {a b : ℕ} {w : Bool} → some (r-arr a w) ≡ some (r-word b) → ⊥
 arr-word e = let z : _≡_ {A = ℕ} 0 1 = cc in omega arith
+
 -- later names have later places
 find-ge : (xs : List Slot) (x : Name) (i j k : ℕ) → find xs x i j ≡ some (r-word k) → i ≤ k
 find-ge [] x i j k e = absurd (none-some e)
@@ -122,6 +138,7 @@ find-ge (a-slot y w ∷ ys) x i j k e = go (same y x) e (find-ge ys x i (suc j) 
     go : (b : Bool) → pick b (some (r-arr j w)) (find ys x i (suc j)) ≡ some (r-word k) → (find ys x i (suc j) ≡ some (r-word k) → i ≤ k) → i ≤ k
     go true d h = absurd (arr-word d)
     go false d h = h d
+
 pub find-lt : (xs : List Slot) (x : Name) (i j k : ℕ) → find xs x i j ≡ some (r-word k) → k < i + words-of xs
 find-lt [] x i j k e = absurd (none-some e)
 find-lt (w-slot y ∷ ys) x i j k e = go (same y x) e (find-lt ys x (suc i) j k)
@@ -134,6 +151,7 @@ find-lt (a-slot y w ∷ ys) x i j k e = go (same y x) e (find-lt ys x i (suc j) 
     go : (b : Bool) → pick b (some (r-arr j w)) (find ys x i (suc j)) ≡ some (r-word k) → (find ys x i (suc j) ≡ some (r-word k) → k < i + words-of ys) → k < i + words-of ys
     go true d h = absurd (arr-word d)
     go false d h = h d
+
 module _ (as₁ : List ℕ) (ws : List Bool) where
   pub var-set : (xs : List Slot) (bs : List Bind) (i j : ℕ) (ps : Places) (x : Name) (k m : ℕ) → find xs x i j ≡ some (r-word k) → Vars as₁ ws xs bs i j ps → Vars as₁ ws xs (setB bs x (word m)) i j (upd ps k m)
   var-set [] [] i j ps x k m e v = absurd (none-some e)
@@ -156,18 +174,22 @@ abbrev pub nums : List Value → List ℕ
 nums [] = []
 nums (word x ∷ vs) = x ∷ nums vs
 nums (array a ∷ vs) = nums vs
+
 abbrev pub arrs-of : List Value → List ℕ
 arrs-of [] = []
 arrs-of (word x ∷ vs) = arrs-of vs
 arrs-of (array a ∷ vs) = a ∷ arrs-of vs
+
 abbrev pub kinds : List Param → List Kind
 kinds [] = []
 kinds (q ∷ qs) = q .kind ∷ kinds qs
+
 abbrev pub Has : List Bool → Value → Kind → Type 0
 Has ws (word n) k-word = Unit {0}
 Has ws (word n) (k-arr w) = ⊥
 Has ws (array a) k-word = ⊥
 Has ws (array a) (k-arr w) = nth ws a ≡ some w
+
 abbrev pub HasAll : List Bool → List Value → List Kind → Type 0
 HasAll ws [] [] = Unit {0}
 HasAll ws [] (k ∷ ks) = ⊥
@@ -180,28 +202,36 @@ module _ {A : Type 0} where
   nth-left [] ys a w e = absurd (none-some e)
   nth-left (x ∷ xs) ys zero w e = e
   nth-left (x ∷ xs) ys (suc a) w e = nth-left xs ys a w e
+
   pub nth-at : (xs ys : List A) (w : A) → nth (xs ++ (w ∷ ys)) (length xs) ≡ some w
   nth-at [] ys w = refl
   nth-at (x ∷ xs) ys w = nth-at xs ys w
+
   pub take-front : (xs ys : List A) → take (length xs) (xs ++ ys) ≡ xs
   take-front [] ys = refl
   take-front (x ∷ xs) ys = ap (λ l. x ∷ l) (take-front xs ys)
+
   pub snoc-length : (pre : List A) (w : A) (n : ℕ) → length pre ≡ n → length (pre ++ (w ∷ [])) ≡ n + 1
   snoc-length pre w n e = length-append pre (w ∷ []) ∙ ap (λ k. k + 1) e
+
 pub wides-++ : (a b : List Cells) → wides (a ++ b) ≡ wides a ++ wides b
 wides-++ [] b = refl
 wides-++ (c ∷ a) b = ap (λ l. c .wide ∷ l) (wides-++ a b)
+
 pub wides-take : (n : ℕ) (a : List Cells) → wides (take n a) ≡ take n (wides a)
 wides-take zero a = refl
 wides-take (suc n) [] = refl
 wides-take (suc n) (c ∷ a) = ap (λ l. c .wide ∷ l) (wides-take n a)
+
 pub wides-length : (a : List Cells) → length (wides a) ≡ length a
 wides-length [] = refl
 wides-length (c ∷ a) = ap suc (wides-length a)
+
 pub wides-put : (cs : List Cells) (a : ℕ) (c d : Cells) → nth cs a ≡ some c → d .wide ≡ c .wide → wides (put cs a d) ≡ wides cs
 wides-put [] a c d e w = refl
 wides-put (b ∷ cs) zero c d e w = ap (λ u. u ∷ wides cs) (w ∙ ap (λ z. z .wide) (sym (some-inj e)))
 wides-put (b ∷ cs) (suc a) c d e w = ap (λ l. b .wide ∷ l) (wides-put cs a c d e w)
+
 pub wides-nth : (cs : List Cells) (a : ℕ) (w : Bool) → nth (wides cs) a ≡ some w → (c : Cells) × (nth cs a ≡ some c) × (c .wide ≡ w)
 wides-nth [] a w e = absurd (none-some e)
 wides-nth (c ∷ cs) zero w e = (c, refl, some-inj e)
@@ -212,9 +242,11 @@ module _ (as₁ : List ℕ) (ws : List Bool) (ps : Places) where
   own-at : (bs : List Arr) (i j n : ℕ) (pre : List Bool) → ws ≡ pre ++ wides (new-arrs bs) → length pre ≡ n → ((h : ℕ) → nth as₁ (j + h) ≡ nth (upto n (shapes-of bs)) h) → Vars as₁ ws (arr-slots bs) (bind-arrs bs n) i j ps
   own-at [] i j n pre e l g = tt
   own-at (b ∷ bs) i j n pre e l g = (refl, (n, refl, rw add-zero at (g 0), ap₂ nth e (sym l) ∙ nth-at pre (wides (new-arrs bs)) (b .wide)), own-at bs i (suc j) (n + 1) (pre ++ (b .wide ∷ [])) (e ∙ sym (append-assoc pre (b .wide ∷ []) (wides (new-arrs bs)))) (snoc-length pre (b .wide) n l) (λ h. let z : suc j + h ≡ j + suc h = omega arith in rw z (g (suc h))))
+
   zeros-at : (xs : List Name) (bs : List Arr) (i j n : ℕ) (pre : List Bool) → ws ≡ pre ++ wides (new-arrs bs) → length pre ≡ n → ((h : ℕ) → ps (i + h) ≡ nth (replicate (length xs) 0) h) → ((h : ℕ) → nth as₁ (j + h) ≡ nth (upto n (shapes-of bs)) h) → Vars as₁ ws (var-slots xs bs) (bind-vars xs ++ bind-arrs bs n) i j ps
   zeros-at [] bs i j n pre e l f g = own-at bs i j n pre e l g
   zeros-at (x ∷ xs) bs i j n pre e l f g = (refl, (0, refl, rw add-zero at (f 0)), zeros-at xs bs (suc i) j n pre e l (λ h. let z : suc i + h ≡ i + suc h = omega arith in rw z (f (suc h))) g)
+
   pub names-at : (qs : List Param) (vs : List Value) (xs : List Name) (bs : List Arr) (i j n : ℕ) (pre : List Bool) → ws ≡ pre ++ wides (new-arrs bs) → length pre ≡ n → HasAll pre vs (kinds qs) → ((h : ℕ) → ps (i + h) ≡ nth (nums vs ++ replicate (length xs) 0) h) → ((h : ℕ) → nth as₁ (j + h) ≡ nth (arrs-of vs ++ upto n (shapes-of bs)) h) → Vars as₁ ws (slots-from qs xs bs) (bind-params qs vs ++ (bind-vars xs ++ bind-arrs bs n)) i j ps
   names-at [] [] xs bs i j n pre e l a f g = zeros-at xs bs i j n pre e l f g
   names-at [] (v ∷ vs) xs bs i j n pre e l a f g = absurd a
@@ -223,16 +255,20 @@ module _ (as₁ : List ℕ) (ws : List Bool) (ps : Places) where
     where
       rest : List Bind
       rest = bind-params qs vs ++ (bind-vars xs ++ bind-arrs bs n)
+
       up : (i : ℕ) (r : ℕ → Option ℕ) (b : ℕ) (l : List ℕ) → ((h : ℕ) → r (i + h) ≡ nth (b ∷ l) h) → (h : ℕ) → r (suc i + h) ≡ nth l h
       up i r b l f h = let z : suc i + h ≡ i + suc h = omega arith in rw z (f (suc h))
+
       go : (v : Value) (k : Kind) → Has pre v k → ((h : ℕ) → ps (i + h) ≡ nth (nums (v ∷ vs) ++ replicate (length xs) 0) h) → ((h : ℕ) → nth as₁ (j + h) ≡ nth (arrs-of (v ∷ vs) ++ upto n (shapes-of bs)) h) → (((h : ℕ) → ps (suc i + h) ≡ nth (nums vs ++ replicate (length xs) 0) h) → ((h : ℕ) → nth as₁ (j + h) ≡ nth (arrs-of vs ++ upto n (shapes-of bs)) h) → Vars as₁ ws (slots-from qs xs bs) rest (suc i) j ps) → (((h : ℕ) → ps (i + h) ≡ nth (nums vs ++ replicate (length xs) 0) h) → ((h : ℕ) → nth as₁ (suc j + h) ≡ nth (arrs-of vs ++ upto n (shapes-of bs)) h) → Vars as₁ ws (slots-from qs xs bs) rest i (suc j) ps) → Vars as₁ ws (slot-of (q .name) k ∷ slots-from qs xs bs) (record { name = q .name; val = v } ∷ rest) i j ps
       go (word x) k-word t f g wd ar = (refl, (x, refl, rw add-zero at (f 0)), wd (up i ps x _ f) g)
       go (word x) (k-arr w) t f g wd ar = absurd t
       go (array b) k-word t f g wd ar = absurd t
       go (array b) (k-arr w) t f g wd ar = (refl, (b, refl, rw add-zero at (g 0), ap (λ l. nth l b) e ∙ nth-left pre (wides (new-arrs bs)) b w t), ar f (up j (nth as₁) b _ g))
+
 pub fresh-new : (bs : List Arr) → fresh (shapes-of bs) ≡ new-arrs bs
 fresh-new [] = refl
 fresh-new (b ∷ bs) = ap (λ l. record { wide = b .wide; cells = replicate (b .size) 0 } ∷ l) (fresh-new bs)
+
 pub shapes-length : (bs : List Arr) → length (shapes-of bs) ≡ length (new-arrs bs)
 shapes-length [] = refl
 shapes-length (b ∷ bs) = ap suc (shapes-length bs)

@@ -22,8 +22,10 @@ pub record MidRight (p : Prog) (P : MProg) (ins : List ℕ) : Type 0 where
   pub comes-to : (n : ℕ) → (Is-spent (means p ins n) → ⊥) → (k x : ℕ) × (z : MSt) × ((m-after P k (m-begin P ins) ≡ m-ends x z) ⊎ (m-after P k (m-begin P ins) ≡ m-traps x z))
   -- every mark of the steps is one of the meaning
   pub marks : (k : ℕ) (z : MSt) → m-after P k (m-begin P ins) ≡ m-goes z → (n : ℕ) × (s : State) × (state-of (means p ins n) ≡ some s) × Front (z .calls) (s .calls)
+
 abbrev pub Mid-right : Type 0
 Mid-right = (p : Prog) → ok p ≡ true → (ins : List ℕ) → MidRight p (gen-prog p) ins
+
 -- B, for what the checks accept
 abbrev pub Not-wrong : Type 0
 Not-wrong = (p : Prog) (ins : List ℕ) (n : ℕ) → ok p ≡ true → means p ins n ≡ wrong → ⊥

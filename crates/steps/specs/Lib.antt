@@ -3,3 +3,4 @@ pub mod Steps
 pub mod Generate
 pub mod Correct
 pub mod Fits
+pub mod Samples

@@ -1,0 +1,5 @@
+use Rattle.lower.proofs.Final.{compiled-short}
+use Rattle.lower.proofs.code_is_in_reach.Needs as need
+
+pub returns : need.returns
+returns c = compiled-short

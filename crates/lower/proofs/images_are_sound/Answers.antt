@@ -1,0 +1,5 @@
+use Rattle.lower.proofs.Final.{compiled-sound}
+use Rattle.lower.proofs.images_are_sound.Needs as need
+
+pub returns : need.returns
+returns c = compiled-sound

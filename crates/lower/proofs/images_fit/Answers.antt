@@ -1,0 +1,5 @@
+use Rattle.lower.proofs.Final.{compiled-fits}
+use Rattle.lower.proofs.images_fit.Needs as need
+
+pub returns : need.returns
+returns c = compiled-fits

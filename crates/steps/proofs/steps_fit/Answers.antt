@@ -1,0 +1,5 @@
+use Rattle.steps.proofs.Ready.{fits-hold}
+use Rattle.steps.proofs.steps_fit.Needs as need
+
+pub returns : need.returns
+returns c = fits-hold

@@ -1,0 +1,5 @@
+use Rattle.steps.proofs.Ready.{small-holds}
+use Rattle.steps.proofs.steps_keep_words.Needs as need
+
+pub returns : need.returns
+returns c = small-holds
