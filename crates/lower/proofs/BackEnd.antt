@@ -12,11 +12,11 @@ use Rattle.image.specs.Image.{Ready, size}
 use Rattle.lower.specs.Promise.{Among}
 use Rattle.lower.proofs.Match.{mark-of}
 use Rattle.lower.specs.Lower.{fun-of, image-of, row-of, code-words}
-use Rattle.lower.proofs.Laid.{Neat}
+use Rattle.lower.proofs.InRow.{Neat}
 use Rattle.steps.specs.Steps.{s-ret, MFn, MProg, MSt, MNext, m-goes, m-ends, m-traps, m-stuck, m-after, m-begin, enters}
-use Rattle.lower.proofs.Back.{Ended, Is, Short, Follows, follows}
-use Rattle.lower.proofs.Never.{never-faults, outside}
-use Rattle.lower.proofs.Tabled.{coded-all}
+use Rattle.lower.proofs.Follows.{Ended, Is, Short, Follows, follows}
+use Rattle.lower.proofs.AtEveryStep.{never-faults, outside}
+use Rattle.lower.proofs.TableWords.{coded-all}
 use Rattle.lower.proofs.Start.{Coded, Firsts, ctx, from-start, len-pre, len-data}
 
 -- the first state of the main function

@@ -22,7 +22,7 @@ use Rattle.lower.specs.declared.Built.the-variants.{Done, ImageFull, NotYet, N
 use Rattle.lower.specs.Lower.{compile}
 use Rattle.lower.specs.Promise.{landed, Runs-right, BuiltSays, BuiltPost, Parts}
 use Rattle.lower.specs.Build.{Outcome, refused, written, of-program, of-text, built, Builds-right}
-use Rattle.lower.proofs.Final.{compiled-right, compiled-sound, compiled-fits}
+use Rattle.lower.proofs.Correct.{compiled-right, compiled-sound, compiled-fits}
 
 pub parts : Parts
 parts = record { one-program = one-program; never-wrong = λ t p ins n r. never-wrong p ins n (r .sound); further = λ t p ins m n r. further p ins m n (r .sound) }

@@ -10,10 +10,10 @@ use Rattle.language.specs.Syntax.{opt, Name, Expr, num, var, bin, un, and1, or1
 use Rattle.language.specs.Meaning.{on-some, as-word}
 use Rattle.grammar.specs.Bounds.{Costs, Fair, each, wE, wEs, wS, wB, wFn}
 use Rattle.steps.specs.Steps.{Opnd, o-top, o-own, Step, s-num, s-copy, s-bin, s-un, s-getw, s-setw, s-call, s-table, s-idx, s-put, s-len, MFn, MProg}
-use Rattle.steps.specs.Generate.{Scope, Ref, r-word, r-arr, find, arr-arg, own-at, unless, count, opnds, the-arr, wide-of, at-place, sizeE, sizeV, sizeS, sizeB, copies, sets-to, gen-var, gen-set, genE, genEs, genV, genS, genB, slots-of, slots-from, words-of, arrays-of, scope, compile}
+use Rattle.steps.specs.Generate.{Scope, Ref, r-word, r-arr, find, arr-arg, own-at, unless, count, opnds, the-arr, wide-of, at-place, sizeE, sizeV, sizeS, sizeB, copies, sets-to, gen-var, gen-set, genE, genEs, genV, genS, genB, slots-of, slots-from, words-of, arrays-of, scope, gen-fn}
 use Rattle.lower.specs.Code.{LI, l-sw, l-num}
 use Rattle.lower.specs.Lower.{Op, o-add, o-sub, o-mul, o-div, o-rem, o-eq, o-ne, o-lt, o-le, o-gt, o-ge, o-and, o-or, o-xor, o-shl, o-shr, Op1, u-neg, u-not, u-inv, u-flag, op-of, op1-of, ops, ops1, loads, stores, masks, lower, prologue, width, at-of, code-of, pro-width, fun-row}
-use Rattle.lower.proofs.Placing.{width-is}
+use Rattle.lower.proofs.RowPlaces.{width-is}
 
 -- what each form's own instructions take at most
 abbrev pub costs : Costs

@@ -9,14 +9,14 @@ use lib.ListN.{length, length-append}
 use Rattle.language.specs.Syntax.{nth}
 use Rattle.processor.specs.Machine.{Machine, does}
 use Rattle.lower.specs.Lower.{at-of, code-of, entry-in, entry-of, fun-of, fun-row, fun-width, funs-row, lower, others, pro-width, prologue, row-of, slots, width, words-of}
-use Rattle.lower.proofs.Laid.{Firm, Neat, past}
+use Rattle.lower.proofs.InRow.{Firm, Neat, past}
 use Rattle.steps.specs.Steps.{Step, MFn, MProg}
-use Rattle.lower.proofs.Rows.{none-some}
-use Rattle.lower.proofs.Low.{LI, to-real}
-use Rattle.lower.proofs.Placing.{past-is, width-is, fun-width-is}
+use Rattle.lower.proofs.Lists.{none-some}
+use Rattle.lower.proofs.Instructions.{LI, to-real}
+use Rattle.lower.proofs.RowPlaces.{past-is, width-is, fun-width-is}
 use Rattle.processor.specs.Instr.{encode, exec}
 use Rattle.processor.proofs.Coded.{does-encode}
-use Rattle.lower.proofs.InFields.{Row-fits, both-fit, step-fits, pro-fits}
+use Rattle.lower.proofs.FieldsFit.{Row-fits, both-fit, step-fits, pro-fits}
 
 coded-from : (is : List LI) (p : ℕ) → Row-fits p is → (j : ℕ) (i : LI) → nth is j ≡ some i → (w : ℕ) × (nth (words-of p is) j ≡ some w) × ((m : Machine) → does m w ≡ exec (to-real (p + j) i) m)
 coded-from [] p f j i h = none-some i h

@@ -12,7 +12,7 @@ use Rattle.language.specs.Meaning.{Top, tops, all-tops, as-fn, as-table, Cells,
 use Rattle.grammar.specs.Bounds.{each, wFn, wI, wIs, words}
 use Rattle.image.specs.Image.{Image, row}
 use Rattle.steps.specs.Steps.{MFn, MProg}
-use Rattle.steps.specs.Generate.{slots-from, slots-of, words-of, scope, gen-body, genB, sorted, fn-nos, compile, gen-prog}
+use Rattle.steps.specs.Generate.{slots-from, slots-of, words-of, scope, gen-body, genB, sorted, fn-nos, gen-fn, gen-prog}
 use Rattle.lower.specs.Code.{LI, l-num}
 use Rattle.lower.specs.Lower.{stores, prologue, at-of, code-of, pro-width, fun-row, fun-width, funs-row, entry-in, row-of, main-no, lens, area, live, live-of, kept, part, plens, flat, data-of, data-size, data-words, tlens, tab-row, tab-words, tab-size, code-words, words-of as words-from, compile as image}
 use Rattle.lower.proofs.CodeSize.{costs, widths, code-long, widths-both, stores-long, w-B}
@@ -33,9 +33,9 @@ each-one : {A : Type 0} (xs : List A) → each 1 xs ≡ length xs
 each-one [] = refl
 each-one (x ∷ xs) = omega (arith, each-one xs)
 
-fun-long : (en : ℕ → ℕ) (m : MProg) (p : Prog) (n : Name) (g : Fn) (q : ℕ) → length (fun-row en m (compile p n g) q) ≤ wFn costs g
+fun-long : (en : ℕ → ℕ) (m : MProg) (p : Prog) (n : Name) (g : Fn) (q : ℕ) → length (fun-row en m (gen-fn p n g) q) ≤ wFn costs g
 fun-long en m p n g q =
-    let f : MFn = compile p n g in
+    let f : MFn = gen-fn p n g in
     let r : ℕ = q + pro-width f in
     let d : ℕ = words-of (slots-of g) in
     let a : length (fun-row en m f q) ≡ length (prologue q f) + length (code-of en (at-of m f (f .code) r) m f (f .code) r) = length-append (prologue q f) _ in
@@ -52,13 +52,13 @@ abbrev tableT : List Top → ℕ
 tableT [] = 0
 tableT (t ∷ ts) = opt (as-table t) 0 (λ fs. length fs) + tableT ts
 
-funs-long : (en : ℕ → ℕ) (m : MProg) (p : Prog) (ts : List Top) (q : ℕ) → length (funs-row en m (sorted as-fn (λ t g. compile p (t .file) g) ts) q) ≤ codeT ts
+funs-long : (en : ℕ → ℕ) (m : MProg) (p : Prog) (ts : List Top) (q : ℕ) → length (funs-row en m (sorted as-fn (λ t g. gen-fn p (t .file) g) ts) q) ≤ codeT ts
 funs-long en m p [] q = omega arith
 funs-long en m p (t ∷ ts) q = go (as-fn t) (λ r. funs-long en m p ts r)
   where
-    go : (o : Option Fn) → ((r : ℕ) → length (funs-row en m (sorted as-fn (λ u h. compile p (u .file) h) ts) r) ≤ codeT ts) → length (funs-row en m (opt o (sorted as-fn (λ u h. compile p (u .file) h) ts) (λ g. compile p (t .file) g ∷ (sorted as-fn (λ u h. compile p (u .file) h) ts))) q) ≤ opt o 0 (λ g. wFn costs g) + codeT ts
+    go : (o : Option Fn) → ((r : ℕ) → length (funs-row en m (sorted as-fn (λ u h. gen-fn p (u .file) h) ts) r) ≤ codeT ts) → length (funs-row en m (opt o (sorted as-fn (λ u h. gen-fn p (u .file) h) ts) (λ g. gen-fn p (t .file) g ∷ (sorted as-fn (λ u h. gen-fn p (u .file) h) ts))) q) ≤ opt o 0 (λ g. wFn costs g) + codeT ts
     go none k = omega (arith, k q)
-    go (some g) k = omega (arith, length-append (fun-row en m (compile p (t .file) g) q) (funs-row en m (sorted as-fn (λ u h. compile p (u .file) h) ts) (q + fun-width m (compile p (t .file) g))), fun-long en m p (t .file) g q, k (q + fun-width m (compile p (t .file) g)))
+    go (some g) k = omega (arith, length-append (fun-row en m (gen-fn p (t .file) g) q) (funs-row en m (sorted as-fn (λ u h. gen-fn p (u .file) h) ts) (q + fun-width m (gen-fn p (t .file) g))), fun-long en m p (t .file) g q, k (q + fun-width m (gen-fn p (t .file) g)))
 
 nos-long : (p : Prog) (f : Name) (xs : List Name) → length (fn-nos p f xs) ≡ length xs
 nos-long p f [] = refl

@@ -16,10 +16,10 @@ use Rattle.language.specs.Meaning.{Mark}
 use Rattle.lower.specs.Promise.{Among, first, later}
 use Rattle.steps.specs.Steps.{s-ret, MFn, MProg, MSt, Saved, Places, upd, MNext, m-goes, m-ends, m-traps, m-stuck, to}
 use Rattle.lower.specs.Lower.{lens, area, begin-of, tlens, tab-size, plens, live-of, data-words, fun-of, slots, frame-size}
-use Rattle.lower.proofs.Rows.{length-put, nth-low, nth-put-same, nth-put-other}
-use Rattle.lower.proofs.Low.{Env, V, l-sw, l-ecall, Steps, Some, address}
-use Rattle.lower.proofs.Laid.{Laid}
-use Rattle.lower.proofs.Flat.{row-by, row-long}
+use Rattle.lower.proofs.Lists.{length-put, nth-low, nth-put-same, nth-put-other}
+use Rattle.lower.proofs.Instructions.{Env, V, l-sw, l-ecall, Steps, Some, address}
+use Rattle.lower.proofs.InRow.{Laid}
+use Rattle.lower.proofs.TopArrays.{row-by, row-long}
 
 -- the words of the tables stand at the end of the code's part
 abbrev pub Tabs : MProg → (ℕ → ℕ) → List ℕ → ℕ → Type 0

@@ -11,7 +11,7 @@ use Rattle.language.specs.Syntax.{pick, opt}
 use Rattle.language.specs.Words.{add}
 use Rattle.processor.specs.Machine.{Machine, Next, goes, halts, faults, does, step, then, after, shown, load, envs, reads, branch, muls, f-op, f-3, f-1, f-2, f-7, imm-i, imm-s, ok-i, ok-r, reg}
 use Rattle.language.specs.Observe.{Front, none-yet, and-so}
-use Rattle.lower.proofs.Never.{stays-ended}
+use Rattle.lower.proofs.AtEveryStep.{stays-ended}
 
 pub front-refl : (s : List ℕ) → Front s s
 front-refl [] = none-yet

@@ -18,19 +18,19 @@ use Rattle.processor.specs.Instr.{exec}
 use Rattle.image.specs.Image.{Ready, within}
 use Rattle.lower.specs.Promise.{first}
 use Rattle.lower.specs.Lower.{lens, area, plens, part, flat, live-of, data-of, data-size, nought-words, data-words, tab-size, at-in, entry-in, frame-size, fun-of, image-of, prologue, row-of}
-use Rattle.lower.proofs.Laid.{Neat, past}
+use Rattle.lower.proofs.InRow.{Neat, past}
 use Rattle.steps.specs.Steps.{s-ret, Shape, fresh, MFn, MProg, MSt, m-goes, enters, m-begin}
-use Rattle.lower.proofs.Rows.{nth-low, nth-left, none-some}
-use Rattle.lower.proofs.Low.{Env, V, LI, to-real, address, links, wr, _▹_, _▸_, d-num, d-alui, d-up, d-jal, Steps, Some}
-use Rattle.lower.proofs.Real.{Sees, and-1, and-2}
-use Rattle.lower.proofs.Placing.{laid}
+use Rattle.lower.proofs.Lists.{nth-low, nth-left, none-some}
+use Rattle.lower.proofs.Instructions.{Env, V, LI, to-real, address, links, wr, _▹_, _▸_, d-num, d-alui, d-up, d-jal, Steps, Some}
+use Rattle.lower.proofs.Realized.{Sees, and-1, and-2}
+use Rattle.lower.proofs.RowPlaces.{laid}
 use Rattle.lower.proofs.Match.{Tabs, Ctx, Match, inside, full, last, Does}
-use Rattle.lower.proofs.Calls.{nth-split, nth-same}
-use Rattle.lower.proofs.Enter.{full-run, Enters, enter-run}
-use Rattle.lower.proofs.Back.{Follows, begun}
-use Rattle.lower.proofs.EachCall.{frame-fresh, more-arrays}
+use Rattle.lower.proofs.Arguments.{nth-split, nth-same}
+use Rattle.lower.proofs.Prologue.{full-run, Enters, enter-run}
+use Rattle.lower.proofs.Follows.{Follows, begun}
+use Rattle.lower.proofs.StepCalls.{frame-fresh, more-arrays}
 use Rattle.language.specs.Meaning.{Cells}
-use Rattle.lower.proofs.Flat.{row-by, part-long}
+use Rattle.lower.proofs.TopArrays.{row-by, part-long}
 
 -- the words are those of the row's instructions, and of the tables
 pub record Coded (p : MProg) (main : ℕ) (code : List ℕ) : Type 0 where

@@ -13,8 +13,8 @@ use Rattle.language.specs.Meaning.{Cells, Top, as-fn}
 use Rattle.steps.specs.Steps.{Opnd, o-top, o-own, Step, s-num, s-ret, Act, MFn, MProg}
 use Rattle.steps.specs.Generate.{own-at, at-place, unless, sizeV, genV, ref-word, Slot, w-slot, a-slot, Ref, r-word, r-arr, find, words-of, arrays-of, slots-from, Scope, gen-arr, the-arr, arr-arg, opnds, count, sizeE, sizeEs, sizeS, sizeB, needE, needEs, needS, needB, gen-var, gen-set, genE, genEs, genS, genB}
 use Rattle.steps.specs.Fits.{Each, Small, OpndFits, Takes, StepFits}
-use Rattle.steps.proofs.Vars.{none-some, some-inj, find-lt, wides, wides-nth, kinds}
-use Rattle.steps.proofs.Sim.{Env, Fun, WfVar, own, top, WfArr, own-arr, top-arr, Calls, Tables, WfE, WfEs, WfS, WfB, Compiled, Linked}
+use Rattle.steps.proofs.Variables.{none-some, some-inj, find-lt, wides, wides-nth, kinds}
+use Rattle.steps.proofs.Match.{Env, Fun, WfVar, own, top, WfArr, own-arr, top-arr, Calls, Tables, WfE, WfEs, WfS, WfB, Compiled, Linked}
 
 pub each-++ : {A : Type 0} (P : A → Type 0) (xs ys : List A) → Each P xs → Each P ys → Each P (xs ++ ys)
 each-++ P [] ys h g = g

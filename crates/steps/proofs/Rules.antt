@@ -10,7 +10,7 @@ use Rattle.language.specs.Syntax.{pick, opt, nth, put, Fn}
 use Rattle.language.specs.Words.{bit}
 use Rattle.language.specs.Meaning.{Mark, State, Result, val, vals, fine, broke, goes-on, gives, trap, spent, wrong, Value, word, div0, binary, single, writes, Bind, with-vars, with-arrays, Cells, with-words, cost, enter, new-arrs, back}
 use Rattle.steps.specs.Steps.{Step, s-num, s-copy, s-bin, s-un, s-flag, s-getw, s-setw, s-jump, s-jz, s-call, s-out, s-ret, s-table, s-in, s-idx, s-put, s-len, Opnd, arr-at, arrs-at, fresh, upto, Act, MFn, MProg, Places, upd, Saved, MSt, MNext, m-goes, m-ends, m-traps, m-stuck, args, enters, leaves, entry, exec, m-step, m-then, m-after}
-use Rattle.steps.proofs.Out.{Cfg, mk, mst, Out, done, stepd, trapd, spentd}
+use Rattle.steps.proofs.Outcome.{Cfg, mk, mst, Out, done, stepd, trapd, spentd}
 
 module _ {P : MProg} {W : ℕ} {Q : Cfg → Result → Type 0} {D pc : ℕ} {j : Act} {ps : Places} {st : List Saved} {s : State} {G : MFn} (hf : nth (P .funs) (j .fn) ≡ some G) where
   pub r-num : {r : Result} {d n : ℕ} → nth (G .code) pc ≡ some (s-num d n) → Out P W Q (D - W) (mk j (suc pc) (upd ps d n) st s) r → Out P W Q D (mk j pc ps st s) r

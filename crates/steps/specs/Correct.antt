@@ -25,7 +25,3 @@ pub record MidRight (p : Prog) (P : MProg) (ins : List ℕ) : Type 0 where
 
 abbrev pub Mid-right : Type 0
 Mid-right = (p : Prog) → ok p ≡ true → (ins : List ℕ) → MidRight p (gen-prog p) ins
-
--- B, for what the checks accept
-abbrev pub Not-wrong : Type 0
-Not-wrong = (p : Prog) (ins : List ℕ) (n : ℕ) → ok p ≡ true → means p ins n ≡ wrong → ⊥

@@ -1,4 +1,4 @@
-use Rattle.lower.proofs.Final.{compiled-fits}
+use Rattle.lower.proofs.Correct.{compiled-fits}
 use Rattle.lower.proofs.images_fit.Needs as need
 
 pub returns : need.returns

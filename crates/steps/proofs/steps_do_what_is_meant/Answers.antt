@@ -1,4 +1,4 @@
-use Rattle.steps.proofs.Static.{mid-holds}
+use Rattle.steps.proofs.Checked.{mid-holds}
 use Rattle.steps.proofs.steps_do_what_is_meant.Needs as need
 
 pub returns : need.returns

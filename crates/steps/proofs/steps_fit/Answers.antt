@@ -1,4 +1,4 @@
-use Rattle.steps.proofs.Ready.{fits-hold}
+use Rattle.steps.proofs.FitsHold.{fits-hold}
 use Rattle.steps.proofs.steps_fit.Needs as need
 
 pub returns : need.returns

@@ -13,15 +13,15 @@ use Rattle.language.specs.Syntax.{opt, nth}
 use Rattle.language.specs.Words.{all, bit, add}
 use Rattle.steps.specs.Steps.{Opnd, s-table, arrs-at, MFn, MSt, m-goes, m-traps, m-stuck, exec, args, enters}
 use Rattle.lower.specs.Lower.{high, low, area, begin-of, size-of, tlens, tab-size, tab-long, tab-at, data-words, fun-of, slots, loads}
-use Rattle.lower.proofs.Rows.{nth-in, nth-low, none-some}
-use Rattle.lower.proofs.Low.{V, LI, l-callr, l-sw, Steps, here, _▸_, d-lw, d-num, d-lui, d-alui, d-alu, d-addg, d-lwc, d-callr, floor-at, address}
-use Rattle.lower.proofs.Going.{taken-bnz, left-bnz}
-use Rattle.lower.proofs.Ops.{num-is, regs-to, seg-right, past-both}
-use Rattle.lower.proofs.Laid.{Seg, fun-nth}
+use Rattle.lower.proofs.Lists.{nth-in, nth-low, none-some}
+use Rattle.lower.proofs.Instructions.{V, LI, l-callr, l-sw, Steps, here, _▸_, d-lw, d-num, d-lui, d-alui, d-alu, d-addg, d-lwc, d-callr, floor-at, address}
+use Rattle.lower.proofs.Runs.{taken-bnz, left-bnz}
+use Rattle.lower.proofs.Operators.{num-is, regs-to, seg-right, past-both}
+use Rattle.lower.proofs.InRow.{Seg, fun-nth}
 use Rattle.lower.proofs.Match.{Ctx, Match, Does, by-opt}
-use Rattle.lower.proofs.Each.{add-turn, below-floor, here-is, then-is, firm}
-use Rattle.lower.proofs.EachArr.{elem-at}
-use Rattle.lower.proofs.EachCall.{called}
+use Rattle.lower.proofs.StepWords.{add-turn, below-floor, here-is, then-is, firm}
+use Rattle.lower.proofs.StepArrays.{elem-at}
+use Rattle.lower.proofs.StepCalls.{called}
 
 -- a table is a part of all tables' words
 pub tab-in : (ts : List (List ℕ)) (t : ℕ) (hs : List ℕ) → nth ts t ≡ some hs → begin-of (tlens ts) t + length hs ≤ area (tlens ts)

@@ -14,15 +14,15 @@ use Rattle.language.specs.Syntax.{pick, nth, put}
 use Rattle.language.specs.Words.{all, add}
 use Rattle.steps.specs.Steps.{Step, s-num, s-copy, s-bin, s-un, s-flag, s-getw, s-setw, s-jump, s-jz, s-out, s-ret, Shape, MFn, MSt, Saved, upd, m-goes, m-traps, to, leaves, exec}
 use Rattle.lower.specs.Lower.{Op1, u-flag, bin-of, no-bin, un-of, op-of, op1-of, ops, ops1, high, low, down-to, area, plens, live-of, data-size, data-words, slots, frame-size, lower}
-use Rattle.lower.proofs.Rows.{length-put, nth-low, nth-left, nth-put-other, put-left}
-use Rattle.lower.proofs.Flat.{row-by, row-word, row-set}
-use Rattle.lower.proofs.Low.{Env, V, LI, l-sw, here, _▸_, _▹_, d-lw, d-sw, d-num, d-lui, d-alui, d-j, d-ret, d-up, d-out, d-addg, d-lwr, d-swr, base, floor-at, address, sets}
-use Rattle.lower.proofs.Real.{wraps, stays}
-use Rattle.lower.proofs.Going.{taken-bnz, left-bnz, and-on}
-use Rattle.lower.proofs.Ops.{num-is, bin-lt, un-lt, ops1-run, ops-run, ops-trap, seg-left, seg-right, past-both, binary-is, div0-is, single-is}
-use Rattle.lower.proofs.Laid.{Seg, past, Firm}
+use Rattle.lower.proofs.Lists.{length-put, nth-low, nth-left, nth-put-other, put-left}
+use Rattle.lower.proofs.TopArrays.{row-by, row-word, row-set}
+use Rattle.lower.proofs.Instructions.{Env, V, LI, l-sw, here, _▸_, _▹_, d-lw, d-sw, d-num, d-lui, d-alui, d-j, d-ret, d-up, d-out, d-addg, d-lwr, d-swr, base, floor-at, address, sets}
+use Rattle.lower.proofs.Realized.{wraps, stays}
+use Rattle.lower.proofs.Runs.{taken-bnz, left-bnz, and-on}
+use Rattle.lower.proofs.Operators.{num-is, bin-lt, un-lt, ops1-run, ops-run, ops-trap, seg-left, seg-right, past-both, binary-is, div0-is, single-is}
+use Rattle.lower.proofs.InRow.{Seg, past, Firm}
 use Rattle.lower.proofs.Match.{Ctx, Match, Globals, inside, over, Does, by-opt, stored-match, in-room, rets-same, frame-same, globals-in, globals-put, Rets, last, more}
-use Rattle.steps.proofs.Vars.{upd-same}
+use Rattle.steps.proofs.Variables.{upd-same}
 
 pub add-turn : (h f l : ℕ) → add (add h f) l ≡ add (add h l) f
 add-turn h f l = omega arith

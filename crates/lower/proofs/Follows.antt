@@ -10,16 +10,16 @@ use Rattle.language.specs.Syntax.{opt, nth}
 use Rattle.processor.specs.Machine.{Machine, goes, halts, step, then, after}
 use Rattle.lower.specs.Promise.{Among}
 use Rattle.steps.specs.Steps.{Step, s-num, s-copy, s-bin, s-un, s-flag, s-getw, s-setw, s-jump, s-jz, s-call, s-out, s-ret, s-table, s-in, s-idx, s-put, s-len, Opnd, o-top, o-own, MProg, MSt, MNext, m-goes, m-ends, m-traps, m-stuck, exec, leaves, m-step, m-then, m-after}
-use Rattle.lower.proofs.Low.{Env, V, here, _▸_, d-num}
-use Rattle.lower.proofs.Real.{Sees, x-end, x-trap, x-full}
-use Rattle.lower.proofs.Going.{Runs, runs, all-of, some-long, steps-in}
+use Rattle.lower.proofs.Instructions.{Env, V, here, _▸_, d-num}
+use Rattle.lower.proofs.Realized.{Sees, x-end, x-trap, x-full}
+use Rattle.lower.proofs.Runs.{Runs, runs, all-of, some-long, steps-in}
 use Rattle.lower.specs.Lower.{stub}
-use Rattle.lower.proofs.Laid.{Seg, fun-nth}
+use Rattle.lower.proofs.InRow.{Seg, fun-nth}
 use Rattle.lower.proofs.Match.{mark-of, Ctx, Match, Over, inside, over, full, Does, by-opt}
-use Rattle.lower.proofs.Each.{sim-num, sim-copy, sim-bin, sim-un, sim-flag, sim-getw, sim-setw, sim-jump, sim-jz, sim-out, sim-ret}
-use Rattle.lower.proofs.EachCall.{sim-call}
-use Rattle.lower.proofs.EachTable.{sim-table}
-use Rattle.lower.proofs.EachArr.{sim-in, sim-idx, sim-put, sim-len}
+use Rattle.lower.proofs.StepWords.{sim-num, sim-copy, sim-bin, sim-un, sim-flag, sim-getw, sim-setw, sim-jump, sim-jz, sim-out, sim-ret}
+use Rattle.lower.proofs.StepCalls.{sim-call}
+use Rattle.lower.proofs.StepTables.{sim-table}
+use Rattle.lower.proofs.StepArrays.{sim-in, sim-idx, sim-put, sim-len}
 
 -- any step, and the end of the program
 sim-does : (c : Ctx) (s : MSt) (v : V) (h : Match c s v) (t : Step) → nth (h .f .code) (s .pc) ≡ some t → Does c v (exec (c .prog) (h .f) t s)

@@ -8,7 +8,7 @@ use Rattle.language.specs.Syntax.{nth}
 use Rattle.language.specs.Words.{all}
 use Rattle.steps.specs.Steps.{Step, s-num, s-copy, s-bin, s-un, s-flag, s-getw, s-setw, s-jump, s-jz, s-call, s-out, s-ret, s-table, s-in, s-idx, s-put, s-len, Opnd, o-top, o-own, Shape, MFn, MProg}
 use Rattle.lower.specs.Code.{LI}
-use Rattle.lower.proofs.Rows.{none-some}
+use Rattle.lower.proofs.Lists.{none-some}
 use Rattle.lower.specs.Lower.{lens, size-of, slots, frame-size, lower, prologue, stub, fun-of, others}
 
 -- a row stands at a place of another; and the place behind it

@@ -11,12 +11,12 @@ use Rattle.language.specs.Syntax.{pick, opt, nth, put, Name, Expr, num, var, bi
 use Rattle.language.specs.Meaning.{on-end, back, enter, cost, bind-params, bind-vars, bind-arrs, new-arrs, State, Result, val, vals, fine, broke, goes-on, gives, trap, spent, Value, word, t-e, t-es, t-s, t-b, t-call, run}
 use Rattle.steps.specs.Steps.{Step, s-num, s-ret, Act, upto, MFn, MProg, Places, upd, Saved, entry}
 use Rattle.steps.specs.Generate.{Scope, words-of, shapes-of, slots-of, sizeB, genB, gen-body}
-use Rattle.steps.proofs.Out.{At, at-left, at-right, Cfg, mk, Out, done, spentd, less, bind, Passes}
+use Rattle.steps.proofs.Outcome.{At, at-left, at-right, Cfg, mk, Out, done, spentd, less, bind, Passes}
 use Rattle.steps.proofs.Rules.{r-num, r-ret}
-use Rattle.steps.proofs.Vars.{Vars, Keeps, upd-same, upd-other, wides, wides-++, wides-take, wides-length, take-front, nth-left, nums, arrs-of, kinds, names-at, shapes-length}
-use Rattle.steps.proofs.Sim.{Env, Fun, wB, WfB, Pre, Stays, QC, q-call, QS, q-fine, q-broke, q-next, q-gives, Sim, SimE, SimEs, SimS, SimB, SimC, Linked, Compiled, Called}
-use Rattle.steps.proofs.Expr.{sim-num, sim-var, sim-bin, sim-un, sim-and, sim-or, sim-call, sim-table, sim-in, sim-idx, sim-len, sim-no, sim-word-arg, sim-arr-arg}
-use Rattle.steps.proofs.Stmt.{sim-set, sim-store, sim-ex, sim-out, sim-if, sim-while, sim-ret, sim-break, sim-next, sim-end, sim-seq, len-B, behind-B, front-B}
+use Rattle.steps.proofs.Variables.{Vars, Keeps, upd-same, upd-other, wides, wides-++, wides-take, wides-length, take-front, nth-left, nums, arrs-of, kinds, names-at, shapes-length}
+use Rattle.steps.proofs.Match.{Env, Fun, wB, WfB, Pre, Stays, QC, q-call, QS, q-fine, q-broke, q-next, q-gives, Sim, SimE, SimEs, SimS, SimB, SimC, Linked, Compiled, Called}
+use Rattle.steps.proofs.Expressions.{sim-num, sim-var, sim-bin, sim-un, sim-and, sim-or, sim-call, sim-table, sim-in, sim-idx, sim-len, sim-no, sim-word-arg, sim-arr-arg}
+use Rattle.steps.proofs.Statements.{sim-set, sim-store, sim-ex, sim-out, sim-if, sim-while, sim-ret, sim-break, sim-next, sim-end, sim-seq, len-B, behind-B, front-B}
 
 module _ (v : Env) (n : ℕ) (ih : Sim v n) (c : Fun) (g : Fn) (vs : List Value) (fr : Saved) (st : List Saved) (s : State) (cm : Called v g c vs s) where
   pub sim-body : Out (v .P) (v .W) (QC fr st s) (suc n - suc (wB (g .body))) (mk (c .j) 0 (entry (c .G) (nums vs)) (fr ∷ st) (enter g vs s)) (run (v .p) (suc n) (c .file) (t-call g vs) s)

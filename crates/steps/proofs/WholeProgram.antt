@@ -13,14 +13,14 @@ use Rattle.language.specs.Syntax.{pick, opt, nth, put, Name, Expr, call, Exprs,
 use Rattle.language.specs.Meaning.{State, Result, val, vals, fine, broke, goes-on, gives, trap, spent, wrong, Value, word, t-e, run, means, begin, w-main, first-file, all-words, all-arrays}
 use Rattle.steps.specs.Steps.{Step, s-ret, Act, MFn, MProg, Places, upd, Saved, MSt, MNext, m-goes, m-ends, m-traps, m-stuck, m-step, m-then, m-after, m-begin, m-shown}
 use Rattle.steps.specs.Generate.{Scope, genE, sizeE}
-use Rattle.steps.proofs.Out.{At, at-left, at-right, Cfg, mk, mst, Out, done, stepd, trapd, spentd, less, bind, Passes}
-use Rattle.steps.proofs.Sim.{Env, Fun, wE, WfE, Pre, Stays, QE, q-val, Sim, SimE, Linked, Compiled}
-use Rattle.steps.proofs.Vars.{wides}
-use Rattle.steps.proofs.Expr.{front, behind}
-use Rattle.steps.proofs.Call.{sim}
+use Rattle.steps.proofs.Outcome.{At, at-left, at-right, Cfg, mk, mst, Out, done, stepd, trapd, spentd, less, bind, Passes}
+use Rattle.steps.proofs.Match.{Env, Fun, wE, WfE, Pre, Stays, QE, q-val, Sim, SimE, Linked, Compiled}
+use Rattle.steps.proofs.Variables.{wides}
+use Rattle.steps.proofs.Expressions.{front, behind}
+use Rattle.steps.proofs.Calls.{sim}
 use Rattle.language.specs.Observe.{Front, none-yet}
 use Rattle.steps.specs.Correct.{MidRight}
-use Rattle.steps.proofs.Grow.{front-refl, Grown, stuck, goes, traps, grown, after-add}
+use Rattle.steps.proofs.Growth.{front-refl, Grown, stuck, goes, traps, grown, after-add}
 use Rattle.language.specs.Observe.{state-of, outs-of, Is-spent, is-spent}
 
 -- how a run from m ends, by what was meant
@@ -76,7 +76,7 @@ grown-goes : {y z : MSt} → Grown y (m-goes z) → Front (y .outs) (z .outs) ×
 grown-goes (goes a b) = (a, b)
 
 grown-ends : {x : ℕ} {y z : MSt} → Grown y (m-ends x z) → Front (y .outs) (z .outs) × Front (y .calls) (z .calls)
-grown-ends (Rattle.steps.proofs.Grow.ends a b) = (a, b)
+grown-ends (Rattle.steps.proofs.Growth.ends a b) = (a, b)
 
 grown-traps : {x : ℕ} {y z : MSt} → Grown y (m-traps x z) → Front (y .outs) (z .outs) × Front (y .calls) (z .calls)
 grown-traps (traps a b) = (a, b)

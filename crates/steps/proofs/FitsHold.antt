@@ -12,15 +12,15 @@ use Rattle.language.specs.Words.{all}
 use Rattle.language.specs.Meaning.{Cells, Is, is-word, is-arr, is-table, is-fn, Top, arrays-in, all-tops, all-words, all-arrays, as-fn, cost, names-of, first-file, w-main}
 use Rattle.language.specs.Checks.{okFn, okI, okIs, okFs, ok, once, sizes, words-ok, names-in, file-names, has-main, total, totals}
 use Rattle.steps.specs.Steps.{Step, s-num, s-ret, Shape, Act, MFn, MProg}
-use Rattle.steps.specs.Generate.{Slot, words-of, arrays-of, slot-of, var-slots, arr-slots, slots-from, slots-of, shapes-of, scope, sizeB, needB, genE, genB, gen-body, sorted, compile, boot, gen-prog}
+use Rattle.steps.specs.Generate.{Slot, words-of, arrays-of, slot-of, var-slots, arr-slots, slots-from, slots-of, shapes-of, scope, sizeB, needB, genE, genB, gen-body, sorted, gen-fn, boot, gen-prog}
 use Rattle.steps.specs.Fits.{Each, Small, StepFits, FnFits, asks, Costs, CellsFit, ProgFits, Mid-fits, Mid-small}
-use Rattle.steps.proofs.Vars.{wides}
-use Rattle.steps.proofs.Sim.{Env, Fun, WfB}
-use Rattle.steps.proofs.Stmt.{len-B}
-use Rattle.steps.proofs.Whole.{Boot}
-use Rattle.steps.proofs.Static.{and-true, env, AllT, no-top, and-top, Good, TopIs, c, wf-B, body-ok, fn-ok, goods, linked, main-fn}
+use Rattle.steps.proofs.Variables.{wides}
+use Rattle.steps.proofs.Match.{Env, Fun, WfB}
+use Rattle.steps.proofs.Statements.{len-B}
+use Rattle.steps.proofs.WholeProgram.{Boot}
+use Rattle.steps.proofs.Checked.{and-true, env, AllT, no-top, and-top, Good, TopIs, c, wf-B, body-ok, fn-ok, goods, linked, main-fn}
 use Rattle.steps.proofs.Fits.{each-++, need-pos, fits-E, fits-B}
-use Rattle.steps.proofs.Small.{each-replicate, zero-small, small-run}
+use Rattle.steps.proofs.SmallWords.{each-replicate, zero-small, small-run}
 
 -- how many own names are words, and arrays
 arr-count : (bs : List Arr) → (words-of (arr-slots bs) ≡ 0) × (arrays-of (arr-slots bs) ≡ length (shapes-of bs))
@@ -50,7 +50,7 @@ arrs-ok : (p : Prog) (f : Name) (g : Fn) → okFn p f g ≡ true → sizes 4096 
 arrs-ok p f g o = let a = and-true (leb (length (g .params)) 8) _ o in let b = and-true (leb (length (g .vars)) 64) _ (a .1) in let d = and-true (leb (length (g .arrs)) 16) _ (b .1) in and-true (sizes 4096 (g .arrs)) _ (d .1) .0
 
 module _ (p : Prog) (o : ok p ≡ true) where
-  fn-fits : (f : Name) (g : Fn) → okFn p f g ≡ true → FnFits (gen-prog p) (compile p f g)
+  fn-fits : (f : Name) (g : Fn) → okFn p f g ≡ true → FnFits (gen-prog p) (gen-fn p f g)
   fn-fits f g h = record { steps = each-++ _ (genB Γ (g .body) d 0 0 0) _ (fits-B (env p) (linked p o) k (omega (arith, n .1)) (g .body) false d 0 0 0 (wf-B p (goods p o) f g j [] (g .body) false (body-ok p f g h)) (omega arith) (omega arith) (omega (arith, len)) (omega (arith, len)) (omega (arith, len))) ((omega (arith, pos), zero-small), (omega (arith, pos), tt)); some-places = omega (arith, n .0); sizes = sizes-small (g .arrs) (arrs-ok p f g h) }
     where
       j : Act
@@ -74,11 +74,11 @@ module _ (p : Prog) (o : ok p ≡ true) where
       len : length (gen-body Γ (g .body) d) ≡ sizeB Γ (g .body) + 2
       len = length-append (genB Γ (g .body) d 0 0 0) _ ∙ ap (λ i. i + 2) (len-B (g .body) Γ d 0 0 0)
 
-  all-fit : (ts : List Top) → AllT (Good p) ts → Each (FnFits (gen-prog p)) (sorted as-fn (λ t g. compile p (t .file) g) ts)
+  all-fit : (ts : List Top) → AllT (Good p) ts → Each (FnFits (gen-prog p)) (sorted as-fn (λ t g. gen-fn p (t .file) g) ts)
   all-fit [] a = tt
   all-fit (t ∷ ts) (and-top q a) = go (as-fn t) refl (all-fit ts a)
     where
-      go : (u : Option Fn) → as-fn t ≡ u → Each (FnFits (gen-prog p)) (sorted as-fn (λ t g. compile p (t .file) g) ts) → Each (FnFits (gen-prog p)) (opt u (sorted as-fn (λ t g. compile p (t .file) g) ts) (λ g. compile p (t .file) g ∷ sorted as-fn (λ t g. compile p (t .file) g) ts))
+      go : (u : Option Fn) → as-fn t ≡ u → Each (FnFits (gen-prog p)) (sorted as-fn (λ t g. gen-fn p (t .file) g) ts) → Each (FnFits (gen-prog p)) (opt u (sorted as-fn (λ t g. gen-fn p (t .file) g) ts) (λ g. gen-fn p (t .file) g ∷ sorted as-fn (λ t g. gen-fn p (t .file) g) ts))
       go none e h = h
       go (some g) e h = (fn-fits (t .file) g (fn-ok p t g (t .is) refl q e), h)
 
@@ -115,14 +115,14 @@ asks-names : (bs : List Arr) → names-of bs ≡ asks (shapes-of bs)
 asks-names [] = refl
 asks-names (b ∷ bs) = ap (λ n. (2 + b .size) + n) (asks-names bs)
 
-fn-costs : (p : Prog) (f : Name) (g : Fn) → Costs (compile p f g)
+fn-costs : (p : Prog) (f : Name) (g : Fn) → Costs (gen-fn p f g)
 fn-costs p f g = omega (arith, params-count (g .params), asks-names (g .arrs))
 
-all-cost : (p : Prog) (ts : List Top) → Each Costs (sorted as-fn (λ t g. compile p (t .file) g) ts)
+all-cost : (p : Prog) (ts : List Top) → Each Costs (sorted as-fn (λ t g. gen-fn p (t .file) g) ts)
 all-cost p [] = tt
 all-cost p (t ∷ ts) = go (as-fn t) (all-cost p ts)
   where
-    go : (u : Option Fn) → Each Costs (sorted as-fn (λ t g. compile p (t .file) g) ts) → Each Costs (opt u (sorted as-fn (λ t g. compile p (t .file) g) ts) (λ g. compile p (t .file) g ∷ sorted as-fn (λ t g. compile p (t .file) g) ts))
+    go : (u : Option Fn) → Each Costs (sorted as-fn (λ t g. gen-fn p (t .file) g) ts) → Each Costs (opt u (sorted as-fn (λ t g. gen-fn p (t .file) g) ts) (λ g. gen-fn p (t .file) g ∷ sorted as-fn (λ t g. gen-fn p (t .file) g) ts))
     go none h = h
     go (some g) h = (fn-costs p (t .file) g, h)
 

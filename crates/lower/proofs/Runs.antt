@@ -7,8 +7,8 @@ use native.Mathlib.Omega.{arith}
 use lib.Dec.{T, eqb, ltb}
 use Rattle.language.specs.Syntax.{pick, nth}
 use Rattle.processor.specs.Machine.{Machine, goes, step, then, after}
-use Rattle.lower.proofs.Low.{Env, V, l-bnz, l-bge, gp, jumps, One, Steps, here, _▸_, Some, _▹_, d-lw, d-sw, d-num, d-lui, d-alui, d-alu, d-bz, d-bnz, d-mul, d-bge, d-j, d-jal, d-ret, d-callr, d-sp, d-room, d-down, d-up, d-out, d-in, d-none, d-addg, d-lwr, d-lwc, d-swr}
-use Rattle.lower.proofs.Real.{Sees, Goes, x-lw, x-sw, x-num, x-lui, x-alui, x-alu, x-bz, x-bnz, x-mul, x-bge, x-j, x-jal, x-ret, x-callr, x-sp, x-room, x-down, x-up, x-out, x-in, x-none, x-addg, x-lwr, x-lwc, x-swr}
+use Rattle.lower.proofs.Instructions.{Env, V, l-bnz, l-bge, gp, jumps, One, Steps, here, _▸_, Some, _▹_, d-lw, d-sw, d-num, d-lui, d-alui, d-alu, d-bz, d-bnz, d-mul, d-bge, d-j, d-jal, d-ret, d-callr, d-sp, d-room, d-down, d-up, d-out, d-in, d-none, d-addg, d-lwr, d-lwc, d-swr}
+use Rattle.lower.proofs.Realized.{Sees, Goes, x-lw, x-sw, x-num, x-lui, x-alui, x-alu, x-bz, x-bnz, x-mul, x-bge, x-j, x-jal, x-ret, x-callr, x-sp, x-room, x-down, x-up, x-out, x-in, x-none, x-addg, x-lwr, x-lwc, x-swr}
 
 -- one step first
 pub after-first : (k : ℕ) (m n : Machine) → step m ≡ goes n → after (suc k) m ≡ after k n

@@ -15,14 +15,14 @@ use Rattle.language.specs.Words.{all, bit, add, andW}
 use Rattle.language.specs.Meaning.{Cells}
 use Rattle.steps.specs.Steps.{Opnd, o-top, o-own, s-in, s-idx, s-put, s-len, MFn, MSt, upd, MNext, m-goes, m-traps, m-stuck, to, reads-in, with-array, exec}
 use Rattle.lower.specs.Lower.{live-of, place, high, low, lens, area, begin-of, size-of, array-at, data-words, slots, lower}
-use Rattle.lower.proofs.Rows.{length-put, nth-in, nth-low, nth-right, nth-put-other, put-right, none-some}
-use Rattle.lower.proofs.Low.{Env, V, here, _▸_, _▹_, d-lw, d-sw, d-num, d-lui, d-alui, d-alu, d-in, d-none, d-addg, d-lwr, d-swr, base, floor-at, got}
-use Rattle.lower.proofs.Going.{taken-bnz, left-bnz}
-use Rattle.lower.proofs.Ops.{num-is}
-use Rattle.lower.proofs.Laid.{Firm}
-use Rattle.lower.proofs.Flat.{row-by, row-long, row-at, row-in, row-put, size-is, changed, lens-put, byte-is}
+use Rattle.lower.proofs.Lists.{length-put, nth-in, nth-low, nth-right, nth-put-other, put-right, none-some}
+use Rattle.lower.proofs.Instructions.{Env, V, here, _▸_, _▹_, d-lw, d-sw, d-num, d-lui, d-alui, d-alu, d-in, d-none, d-addg, d-lwr, d-swr, base, floor-at, got}
+use Rattle.lower.proofs.Runs.{taken-bnz, left-bnz}
+use Rattle.lower.proofs.Operators.{num-is}
+use Rattle.lower.proofs.InRow.{Firm}
+use Rattle.lower.proofs.TopArrays.{row-by, row-long, row-at, row-in, row-put, size-is, changed, lens-put, byte-is}
 use Rattle.lower.proofs.Match.{globals-in, Ctx, Match, Globals, inside, Does, by-opt, stored-match, in-room, rets-same, frame-same, globals-put}
-use Rattle.lower.proofs.Each.{here-is, then-is, firm, word-at}
+use Rattle.lower.proofs.StepWords.{here-is, then-is, firm, word-at}
 
 -- an element's address, its number counted in words
 pub elem-at : (h f l i b j : ℕ) → add (add h f) l ≡ 4 * (b + j) → 4 * (b + (j + i)) < all → add (add (add h f) (add (add i i) (add i i))) l ≡ 4 * (b + (j + i))

@@ -13,8 +13,8 @@ use Rattle.language.specs.Words.{all, bit, odd, bits, xor1, andW, orW, xorW, ad
 use Rattle.language.specs.Meaning.{on-some, Cells, div0, binary, single}
 use Rattle.steps.specs.Steps.{Opnd, o-top, o-own, Step, s-num, s-copy, s-bin, s-un, s-flag, s-getw, s-setw, s-jump, s-jz, s-call, s-table, s-out, s-ret, s-in, s-idx, s-put, s-len, Shape, MFn, MProg, Places, upd, Saved, MSt, MNext, m-goes, m-ends, m-traps, m-stuck, to, args, arr-at, arrs-at, entry, fresh, enters, leaves, with-place, with-array, reads-in, exec, m-step, m-then, m-after, m-begin}
 use Rattle.steps.specs.Fits.{Each, Small, StepFits, FnFits, CellsFit, ProgFits, PlacesSmall, StFits}
-use Rattle.steps.proofs.Vars.{none-some, some-inj}
-use Rattle.steps.proofs.Stmt.{length-put}
+use Rattle.steps.proofs.Variables.{none-some, some-inj}
+use Rattle.steps.proofs.Statements.{length-put}
 use Rattle.steps.proofs.Fits.{each-++}
 
 pick1 : {A : Type 0} (P : A → Type 0) (t : Bool) {a b : A} → P a → P b → P (pick t a b)

@@ -15,12 +15,12 @@ use Rattle.language.specs.Syntax.{pick, opt, nth, Name, same, listed, Expr, num
 use Rattle.language.specs.Meaning.{Result, wrong, means, on-some, or-else, Is, is-word, is-arr, is-table, is-fn, Top, tops, words-in, arrays-in, all-tops, all-words, top-of, used-in, items-of, resolve, as-word, as-arr, as-fn, as-table, all-arrays, cost, first-file, w-main}
 use Rattle.language.specs.Checks.{same-k, kind-is, in-params, in-arrs, kind-of, is-kind, any-arr, names-arr, names-in, fits-arg, first-k, rest-k, no-more, fn-named, is-local, params-of, head-fn, params-table, same-ps, alike, okE, okEs, okS, okB, okFn, okI, okIs, okFs, ok, has-main, param-names, once, sizes, arr-names, file-names, totals}
 use Rattle.steps.specs.Steps.{Opnd, Step, s-ret, Act, MFn, MProg, MSt}
-use Rattle.steps.specs.Generate.{Scope, Slot, Ref, r-word, r-arr, find, slot-of, arr-slots, var-slots, slots-from, slots-of, is-wide, gen-arr, arr-arg, genE, gen-body, sorted, pos, number, fn-no, fn-nos, scope, compile, boot, gen-prog}
-use Rattle.steps.proofs.Out.{At, at-left}
-use Rattle.steps.proofs.Vars.{none-some, some-inj, same-true, pick2, wides, wides-++, wides-length, nth-at, snoc-length, kinds}
-use Rattle.steps.proofs.Sim.{Env, Fun, wE, wB, WfVar, WfArr, own, top, own-arr, top-arr, Calls, Tables, WfE, WfEs, WfS, WfB, Compiled, Linked}
-use Rattle.steps.specs.Correct.{MidRight, Mid-right, Not-wrong}
-use Rattle.steps.proofs.Whole.{Boot, Ends, comes, mid-right}
+use Rattle.steps.specs.Generate.{Scope, Slot, Ref, r-word, r-arr, find, slot-of, arr-slots, var-slots, slots-from, slots-of, is-wide, gen-arr, arr-arg, genE, gen-body, sorted, pos, number, fn-no, fn-nos, scope, gen-fn, boot, gen-prog}
+use Rattle.steps.proofs.Outcome.{At, at-left}
+use Rattle.steps.proofs.Variables.{none-some, some-inj, same-true, pick2, wides, wides-++, wides-length, nth-at, snoc-length, kinds}
+use Rattle.steps.proofs.Match.{Env, Fun, wE, wB, WfVar, WfArr, own, top, own-arr, top-arr, Calls, Tables, WfE, WfEs, WfS, WfB, Compiled, Linked}
+use Rattle.steps.specs.Correct.{MidRight, Mid-right}
+use Rattle.steps.proofs.WholeProgram.{Boot, Ends, comes, mid-right}
 
 pub and-true : (a b : Bool) → (a && b) ≡ true → (a ≡ true) × (b ≡ true)
 and-true true b e = (refl, e)
@@ -199,7 +199,7 @@ Good p t = TopIs p (t .file) (t .is)
 
 module _ (p : Prog) (goods : AllT (Good p) (all-tops p 0 0)) (f : Name) (g : Fn) (j : Act) (ws : List Bool) where
   abbrev pub c : Fun
-  c = record { file = f; Γ = scope p f (slots-of g); j = j; G = compile p f g; ws = ws }
+  c = record { file = f; Γ = scope p f (slots-of g); j = j; G = gen-fn p f g; ws = ws }
 
   wf-var : (x : Name) → kind-of p f g x ≡ some k-word → WfVar (env p) c x
   wf-var x e = go (find (slots-of g) x 0 0) refl (sym (kind-find p f g x) ∙ e)
@@ -384,9 +384,6 @@ unfolding heavy
 some-heavy [] = omega arith
 some-heavy (t ∷ ts) = omega (arith, some-heavy ts)
 
-ends-not : {P : MProg} {W D : ℕ} {m : MSt} → Ends P W D m wrong → ⊥
-ends-not e = elim e [ ]
-
 none-left : (qs : List Param) → no-more qs ≡ true → kinds qs ≡ []
 none-left [] e = refl
 none-left (q ∷ qs) e = absurd (false≢true e)
@@ -405,7 +402,7 @@ module _ (p : Prog) (o : ok p ≡ true) where
   linked = record {
     some-step = some-heavy (all-tops p 0 0);
     not-first = λ f x. omega arith;
-    fn = λ f x t g r a. (scope p (t .file) (slots-of g), compile p (t .file) g, λ as₁ ws. record { here = number-at as-fn (λ t g. compile p (t .file) g) p f x t g r a; code = whole _; slots = refl; params = refl; arrays = refl; vars = refl; own = refl; costs = refl; wf = wf-B p goods (t .file) g (record { fn = fn-no p f x; arrs = as₁ }) ws (g .body) false (body-ok p (t .file) g (fn-ok p t g (t .is) refl (all-resolve p f x t goods r) a)); light = all-resolve p f x t (light-all (all-tops p 0 0) _ (omega arith)) r g a });
+    fn = λ f x t g r a. (scope p (t .file) (slots-of g), gen-fn p (t .file) g, λ as₁ ws. record { here = number-at as-fn (λ t g. gen-fn p (t .file) g) p f x t g r a; code = whole _; slots = refl; params = refl; arrays = refl; vars = refl; own = refl; costs = refl; wf = wf-B p goods (t .file) g (record { fn = fn-no p f x; arrs = as₁ }) ws (g .body) false (body-ok p (t .file) g (fn-ok p t g (t .is) refl (all-resolve p f x t goods r) a)); light = all-resolve p f x t (light-all (all-tops p 0 0) _ (omega arith)) r g a });
     nos = nos-at p;
     nos-none = nos-out p;
   }
@@ -420,11 +417,5 @@ module _ (p : Prog) (o : ok p ≡ true) where
   pub right : (ins : List ℕ) → MidRight p (gen-prog p) ins
   right ins = mid-right (env p) linked _ main-fn ins
 
-  not-wrong : (ins : List ℕ) (n : ℕ) → means p ins n ≡ wrong → ⊥
-  not-wrong ins n e = ends-not (subst (Ends (gen-prog p) _ _ _) e (comes (env p) linked _ main-fn ins n))
-
 pub mid-holds : Mid-right
 mid-holds p o ins = right p o ins
-
-pub not-wrong-holds : Not-wrong
-not-wrong-holds p ins n o e = not-wrong p o ins n e

@@ -17,8 +17,8 @@ use Rattle.processor.specs.declared.instr.Alu.{Alu}
 use Rattle.processor.specs.declared.instr.Prod.{Prod}
 use Rattle.processor.specs.Instr.{exec, by-imm, by-alu, by-prod}
 use Rattle.processor.specs.Machine.{Machine, goes, halts, faults, reg, set-reg, at-pc, on, load, stored, put-reg, reads, envs, does, step}
-use Rattle.lower.proofs.Rows.{length-put, nth-low, nth-put-same, nth-put-other, nth-left, nth-right, put-left, put-right, nth-in}
-use Rattle.lower.proofs.Low.{LI, l-lw, l-sw, l-num, l-lui, l-alui, l-alu, l-bz, l-bnz, l-mul, l-bge, l-j, l-jal, l-ret, l-callr, l-sp, l-room, l-downr, l-upr, off, stack-at, l-ecall, l-addg, l-lwr, l-swr, base, floor-at, rel, to-real, gp, Env, V, sets, keeps, jumps, links, slides, prints, got, address}
+use Rattle.lower.proofs.Lists.{length-put, nth-low, nth-put-same, nth-put-other, nth-left, nth-right, put-left, put-right, nth-in}
+use Rattle.lower.proofs.Instructions.{LI, l-lw, l-sw, l-num, l-lui, l-alui, l-alu, l-bz, l-bnz, l-mul, l-bge, l-j, l-jal, l-ret, l-callr, l-sp, l-room, l-downr, l-upr, off, stack-at, l-ecall, l-addg, l-lwr, l-swr, base, floor-at, rel, to-real, gp, Env, V, sets, keeps, jumps, links, slides, prints, got, address}
 
 -- the processor's state is the state
 pub record Sees (e : Env) (m : Machine) (v : V) : Type 0 where

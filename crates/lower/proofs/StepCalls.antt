@@ -13,17 +13,17 @@ use Rattle.language.specs.Syntax.{opt, nth}
 use Rattle.language.specs.Words.{all}
 use Rattle.steps.specs.Steps.{Opnd, Shape, s-call, fresh, arrs-at, MFn, MSt, m-goes, m-stuck, exec, args, entry, enters}
 use Rattle.lower.specs.Lower.{live-of, fun-of, slots, frame-size, loads, prologue}
-use Rattle.lower.proofs.Rows.{nth-low}
+use Rattle.lower.proofs.Lists.{nth-low}
 use Rattle.language.specs.Meaning.{Cells}
-use Rattle.lower.proofs.Flat.{row-by}
-use Rattle.lower.proofs.Low.{V, LI, l-sw, l-jal, One, Steps, here, _▹_, d-jal, address, links}
-use Rattle.lower.proofs.Going.{and-on, and-first}
-use Rattle.lower.proofs.Ops.{regs-to, seg-left, seg-right, past-both}
-use Rattle.lower.proofs.Laid.{Neat, Seg, past, fun-nth}
+use Rattle.lower.proofs.TopArrays.{row-by}
+use Rattle.lower.proofs.Instructions.{V, LI, l-sw, l-jal, One, Steps, here, _▹_, d-jal, address, links}
+use Rattle.lower.proofs.Runs.{and-on, and-first}
+use Rattle.lower.proofs.Operators.{regs-to, seg-left, seg-right, past-both}
+use Rattle.lower.proofs.InRow.{Neat, Seg, past, fun-nth}
 use Rattle.lower.proofs.Match.{globals-in, among-last, Ctx, Frame, Match, inside, full, Does, by-opt, rets-in, rets-same, frame-same, globals-same, Rets, more}
-use Rattle.lower.proofs.Calls.{wr-other, args-length, args-small, loads-run, nth-split, nth-same}
-use Rattle.lower.proofs.Enter.{full-run, Enters, enter-run}
-use Rattle.lower.proofs.Each.{here-is, then-is, firm}
+use Rattle.lower.proofs.Arguments.{wr-other, args-length, args-small, loads-run, nth-split, nth-same}
+use Rattle.lower.proofs.Prologue.{full-run, Enters, enter-run}
+use Rattle.lower.proofs.StepWords.{here-is, then-is, firm}
 
 -- a call with no arrays of its own brings none
 pub more-arrays : (as₁ : List Cells) (os : List Shape) → os ≡ [] → as₁ ++ fresh os ≡ as₁

@@ -12,13 +12,13 @@ use lib.Dec.{ltb}
 use Rattle.language.specs.Syntax.{nth}
 use Rattle.language.specs.Words.{all, add}
 use Rattle.lower.specs.Lower.{frame-size, high, low, prologue, stores}
-use Rattle.lower.proofs.Laid.{Seg, past}
+use Rattle.lower.proofs.InRow.{Seg, past}
 use Rattle.steps.specs.Steps.{MFn}
-use Rattle.lower.proofs.Rows.{length-put, nth-put-same, nth-put-other}
-use Rattle.lower.proofs.Low.{Env, V, LI, l-ecall, l-num, wr, sets, keeps, jumps, slides, Steps, here, _▸_, d-sw, d-num, d-sp, d-room, d-down, d-lui, d-alui, stack-at}
-use Rattle.lower.proofs.Going.{and-on, taken-bge, left-bge}
-use Rattle.lower.proofs.Ops.{num-is, seg-left, seg-right, past-both}
-use Rattle.lower.proofs.Calls.{gp-free, wr-other, Stored, stores-run}
+use Rattle.lower.proofs.Lists.{length-put, nth-put-same, nth-put-other}
+use Rattle.lower.proofs.Instructions.{Env, V, LI, l-ecall, l-num, wr, sets, keeps, jumps, slides, Steps, here, _▸_, d-sw, d-num, d-sp, d-room, d-down, d-lui, d-alui, stack-at}
+use Rattle.lower.proofs.Runs.{and-on, taken-bge, left-bge}
+use Rattle.lower.proofs.Operators.{num-is, seg-left, seg-right, past-both}
+use Rattle.lower.proofs.Arguments.{gp-free, wr-other, Stored, stores-run}
 
 not-56 : (r : ℕ → ℕ) (a b c d i : ℕ) → 10 ≤ i → wr (wr (wr (wr r 5 a) 5 b) 6 c) 6 d i ≡ r i
 not-56 r a b c d i h = wr-other (wr (wr (wr r 5 a) 5 b) 6 c) 6 d i (omega arith) ∙ wr-other (wr (wr r 5 a) 5 b) 6 c i (omega arith) ∙ wr-other (wr r 5 a) 5 b i (omega arith) ∙ wr-other r 5 a i (omega arith)

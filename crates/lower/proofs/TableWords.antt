@@ -12,9 +12,9 @@ use Rattle.steps.specs.Steps.{MFn, MProg}
 use Rattle.steps.specs.Fits.{Each, Small}
 use Rattle.lower.specs.Code.{LI}
 use Rattle.lower.specs.Lower.{area, begin-of, tlens, tab-size, tab-row, tab-words, data-words, entry-in, fun-of, row-of, words-of, code-words}
-use Rattle.lower.proofs.Rows.{nth-left, nth-right, none-some}
+use Rattle.lower.proofs.Lists.{nth-left, nth-right, none-some}
 use Rattle.steps.proofs.Fits.{each-++}
-use Rattle.lower.proofs.Laid.{Neat}
+use Rattle.lower.proofs.InRow.{Neat}
 use Rattle.lower.proofs.Encoded.{coded-row, row-fits}
 use Rattle.lower.proofs.Start.{Coded}
 

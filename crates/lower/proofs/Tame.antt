@@ -14,19 +14,19 @@ use Rattle.language.specs.Meaning.{Cells, Is, is-word, is-arr, is-table, is-fn,
 use Rattle.language.specs.Checks.{ok, okFn}
 use Rattle.grammar.specs.Text.{Reads}
 use Rattle.steps.specs.Steps.{Opnd, o-top, o-own, Step, s-num, s-copy, s-bin, s-un, s-flag, s-getw, s-setw, s-jump, s-jz, s-call, s-table, s-out, s-ret, s-in, s-idx, s-put, s-len, Shape, MFn, MProg, m-goes, m-step, m-begin}
-use Rattle.steps.specs.Generate.{Slot, words-of, arrays-of, slot-of, slots-from, shapes-of, scope, fn-no, fn-nos, sorted, compile, boot, gen-prog}
+use Rattle.steps.specs.Generate.{Slot, words-of, arrays-of, slot-of, slots-from, shapes-of, scope, fn-no, fn-nos, sorted, gen-fn, boot, gen-prog}
 use Rattle.steps.specs.Fits.{Each, Small, OpndFits, Takes, StepFits, FnFits, Costs, ProgFits, CellsFit, but-first}
 use Rattle.lower.specs.Lower.{flat, live, live-of, kept, part, data-of, lens, area, size-of, slots, frame-size, fun-of, others, main-no, row-of}
 use Rattle.lower.specs.Correct.{BareFn, BareI, Bare}
-use Rattle.lower.proofs.Rows.{none-some, nth-in}
-use Rattle.lower.proofs.Flat.{lens-part}
+use Rattle.lower.proofs.Lists.{none-some, nth-in}
+use Rattle.lower.proofs.TopArrays.{lens-part}
 use Rattle.lower.proofs.Start.{Firsts, rep-both}
 use Rattle.steps.proofs.Fits.{each-++}
 use borrow.Author.Tests.{eqb-true}
-use Rattle.steps.proofs.Static.{and-true, AllT, no-top, and-top, all-append, TopIs, Good, goods, fn-ok}
-use Rattle.steps.proofs.Ready.{fits-hold}
-use Rattle.steps.proofs.Room.{room-holds}
-use Rattle.lower.proofs.Laid.{TopArr, Firm, Neat, fun-nth}
+use Rattle.steps.proofs.Checked.{and-true, AllT, no-top, and-top, all-append, TopIs, Good, goods, fn-ok}
+use Rattle.steps.proofs.FitsHold.{fits-hold}
+use Rattle.steps.proofs.PlacesBound.{room-holds}
+use Rattle.lower.proofs.InRow.{TopArr, Firm, Neat, fun-nth}
 use Rattle.lower.proofs.BackEnd.{Tame, first-state}
 
 each-nth : {A : Type 0} (Q : A → Type 0) (xs : List A) (i : ℕ) (x : A) → Each Q xs → nth xs i ≡ some x → Q x
@@ -114,7 +114,7 @@ params-few (q ∷ qs) = go (q .kind) (params-few qs)
     go k-word h = omega arith
     go (k-arr w) h = omega arith
 
-few-fn : (p : Prog) (f : Name) (g : Fn) → okFn p f g ≡ true → Few (compile p f g)
+few-fn : (p : Prog) (f : Name) (g : Fn) → okFn p f g ≡ true → Few (gen-fn p f g)
 few-fn p f g o =
     let a = and-true (leb (length (g .params)) 8) _ o in
     let b = and-true (leb (length (g .vars)) 64) _ (a .1) in
@@ -123,11 +123,11 @@ few-fn p f g o =
     (omega (arith, params-few (g .params)), y)
 
 -- what holds of each function of the top holds of each in steps
-each-fn : (p : Prog) (Q : MFn → Type 0) (R : Top → Type 0) → ((t : Top) (g : Fn) → R t → as-fn t ≡ some g → Q (compile p (t .file) g)) → (ts : List Top) → AllT R ts → Each Q (sorted as-fn (λ t g. compile p (t .file) g) ts)
+each-fn : (p : Prog) (Q : MFn → Type 0) (R : Top → Type 0) → ((t : Top) (g : Fn) → R t → as-fn t ≡ some g → Q (gen-fn p (t .file) g)) → (ts : List Top) → AllT R ts → Each Q (sorted as-fn (λ t g. gen-fn p (t .file) g) ts)
 each-fn p Q R k [] a = tt
 each-fn p Q R k (t ∷ ts) (and-top q a) = go (as-fn t) refl (each-fn p Q R k ts a)
   where
-    go : (u : Option Fn) → as-fn t ≡ u → Each Q (sorted as-fn (λ t g. compile p (t .file) g) ts) → Each Q (opt u (sorted as-fn (λ t g. compile p (t .file) g) ts) (λ g. compile p (t .file) g ∷ sorted as-fn (λ t g. compile p (t .file) g) ts))
+    go : (u : Option Fn) → as-fn t ≡ u → Each Q (sorted as-fn (λ t g. gen-fn p (t .file) g) ts) → Each Q (opt u (sorted as-fn (λ t g. gen-fn p (t .file) g) ts) (λ g. gen-fn p (t .file) g ∷ sorted as-fn (λ t g. gen-fn p (t .file) g) ts))
     go none e h = h
     go (some g) e h = (k t g q e, h)
 

@@ -12,11 +12,11 @@ use Rattle.language.specs.Syntax.{pick, opt, nth, put, Name, Expr, Stmt, set1, 
 use Rattle.language.specs.Meaning.{on-some, on-val, on-fine, on-round, on-end, either, with-word, with-vars, with-arrays, Cells, with-words, assigns, writes, setB, State, Result, val, vals, fine, broke, goes-on, gives, trap, spent, Value, word, Top, resolve, as-word, as-fn, Task, t-e, t-s, t-b, t-call, run}
 use Rattle.steps.specs.Steps.{Step, s-num, s-copy, s-jump, s-jz, s-out, s-put, s-ret, MFn, MProg, Places, upd, Saved}
 use Rattle.steps.specs.Generate.{at-place, sizeV, genV, Scope, find, wide-of, the-arr, gen-set, sizeE, sizeS, sizeB, genE, genS, genB}
-use Rattle.steps.proofs.Out.{At, at-left, at-right, Cfg, mk, Out, done, less, bind, Passes}
+use Rattle.steps.proofs.Outcome.{At, at-left, at-right, Cfg, mk, Out, done, less, bind, Passes}
 use Rattle.steps.proofs.Rules.{r-num, r-set, r-setw, r-jump, r-jz, r-out, r-ret, r-put, r-put-trap}
-use Rattle.steps.proofs.Vars.{Vars, Keeps, upd-same, upd-other, var-get, var-none, var-set, wides, wides-put}
-use Rattle.steps.proofs.Sim.{Env, Fun, wE, wS, wB, WfVar, own, top, WfArr, ArrAt, arr-there, cells-there, WfE, WfS, WfB, Pre, pre-on, Stays, stays-refl, stays-trans, QE, on-value, QS, q-fine, q-broke, q-next, q-gives, Sim, Linked, Compiled}
-use Rattle.steps.proofs.Expr.{len-E, front, behind, nth-some, keeps-on, len-V, front-V, behind-V, on-operand}
+use Rattle.steps.proofs.Variables.{Vars, Keeps, upd-same, upd-other, var-get, var-none, var-set, wides, wides-put}
+use Rattle.steps.proofs.Match.{Env, Fun, wE, wS, wB, WfVar, own, top, WfArr, ArrAt, arr-there, cells-there, WfE, WfS, WfB, Pre, pre-on, Stays, stays-refl, stays-trans, QE, on-value, QS, q-fine, q-broke, q-next, q-gives, Sim, Linked, Compiled}
+use Rattle.steps.proofs.Expressions.{len-E, front, behind, nth-some, keeps-on, len-V, front-V, behind-V, on-operand}
 
 mutual
   pub len-S : (a : Stmt) (Γ : Scope) (d k m pc : ℕ) → length (genS Γ a d k m pc) ≡ sizeS Γ a

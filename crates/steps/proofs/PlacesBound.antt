@@ -11,13 +11,13 @@ use borrow.Author.Tests.{eqb-true}
 use Rattle.language.specs.Syntax.{pick, opt, nth, Name, same, listed, Expr, num, var, bin, un, and1, or1, idx, len, call, by-table, input, Exprs, no, and-then, Stmt, set1, store1, ex1, out1, if1, while1, ret1, break1, next1, Block, end, seq1, Kind, k-word, k-arr, Param, Arr, Fn, Item, i-word, i-arr, i-data, i-table, i-fn, i-use, File, Prog}
 use Rattle.grammar.specs.Text.{letter, letters, digit1, digitsV, okName, kept, Number, Between, Before, Names, one-n, more-n, Nums, one-v, more-v, Ex, looser, or-e, and-e, two-e, one-e, num-e, var-e, brackets-e, index-e, len-e, call-e, table-e, in-e, Exs, none-es, one-es, more-es, St1, set-s, store-s, ex-s, out-s, if-s, ifelse-s, while-s, return-s, break-s, continue-s, Sts, end-s, more-s, Par, word-p, wide-p, byte-p, Pars, none-ps, one-ps, more-ps, Vars, no-vars, some-vars, Arrs, no-arrs, wide-a, byte-a, It, word-i, wide-i, byte-i, data-i, text-i, table-i, use-i, fn-i, Its, no-items, more-items, Files, no-files, more-files, Reads, pieces, gap, opens, shuts, flat, t-lp, t-rp, t-lb, t-rb, t-lc, t-rc, t-comma, t-semi, t-gets, t-colon, k-if, k-else, k-var, k-fn, k-use, k-file}
 use Rattle.steps.specs.Steps.{Opnd}
-use Rattle.steps.specs.Generate.{Scope, arr-arg, needE, needEs, needS, needB, words-of, slots-from, slots-of, scope, sorted, compile, gen-prog}
+use Rattle.steps.specs.Generate.{Scope, arr-arg, needE, needEs, needS, needB, words-of, slots-from, slots-of, scope, sorted, gen-fn, gen-prog}
 use Rattle.language.specs.Meaning.{Top, tops, words-in, arrays-in, all-tops, resolve, as-fn, as-table, on-some}
 use Rattle.language.specs.Checks.{kind-of, any-arr, names-arr, fits-arg, fn-named, is-local, params-of, head-fn, params-table, okE, okEs, okS, okB, okFn, okI, okIs, okFs, once, names-in, file-names, has-main, totals, ok}
 use Rattle.steps.specs.Fits.{Each, Mid-room}
-use Rattle.steps.proofs.Ready.{slot-count}
-use Rattle.steps.proofs.Static.{and-true, AllT, no-top, and-top, all-append, all-resolve, Good, fn-ok, body-ok, goods, opt-true, some-then, not-local}
-use Rattle.steps.proofs.Vars.{none-some, some-inj}
+use Rattle.steps.proofs.FitsHold.{slot-count}
+use Rattle.steps.proofs.Checked.{and-true, AllT, no-top, and-top, all-append, all-resolve, Good, fn-ok, body-ok, goods, opt-true, some-then, not-local}
+use Rattle.steps.proofs.Variables.{none-some, some-inj}
 
 t-true : (b : Bool) → T b → b ≡ true
 t-true true h = refl
@@ -367,11 +367,11 @@ all-room : (fs : Prog) (w a : ℕ) → Each (λ f. Each RoomI (f .items)) fs →
 all-room [] w a h = no-top
 all-room (f ∷ fs) w a h = all-append _ _ (tops-room (f .name) (f .items) w a (h .0)) (all-room fs (w + words-in (f .items)) (a + length (arrays-in (f .items))) (h .1))
 
-funs-room : (p : Prog) (ts : List Top) → AllT RoomT ts → Each (λ g. g .places ≤ (g .params + g .vars) + 731) (sorted as-fn (λ t g. compile p (t .file) g) ts)
+funs-room : (p : Prog) (ts : List Top) → AllT RoomT ts → Each (λ g. g .places ≤ (g .params + g .vars) + 731) (sorted as-fn (λ t g. gen-fn p (t .file) g) ts)
 funs-room p [] a = tt
 funs-room p (t ∷ ts) (and-top q a) = go (as-fn t) refl (funs-room p ts a)
   where
-    go : (u : Option Fn) → as-fn t ≡ u → Each (λ g. g .places ≤ (g .params + g .vars) + 731) (sorted as-fn (λ t g. compile p (t .file) g) ts) → Each (λ g. g .places ≤ (g .params + g .vars) + 731) (opt u (sorted as-fn (λ t g. compile p (t .file) g) ts) (λ g. compile p (t .file) g ∷ sorted as-fn (λ t g. compile p (t .file) g) ts))
+    go : (u : Option Fn) → as-fn t ≡ u → Each (λ g. g .places ≤ (g .params + g .vars) + 731) (sorted as-fn (λ t g. gen-fn p (t .file) g) ts) → Each (λ g. g .places ≤ (g .params + g .vars) + 731) (opt u (sorted as-fn (λ t g. gen-fn p (t .file) g) ts) (λ g. gen-fn p (t .file) g ∷ sorted as-fn (λ t g. gen-fn p (t .file) g) ts))
     go none e h = h
     go (some g) e h = let n = slot-count (g .params) (g .vars) (g .arrs) in let k = q g e (scope p (t .file) (slots-of g)) in (omega (arith, n .0, k), h)
 

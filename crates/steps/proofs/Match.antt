@@ -12,8 +12,8 @@ use Rattle.language.specs.Meaning.{on-some, on-val, on-vals, State, Result, val
 use Rattle.language.specs.Words.{all}
 use Rattle.steps.specs.Steps.{Opnd, o-top, o-own, Step, s-ret, Act, MFn, MProg, Places, upd, Saved, entry, args, arr-at, arrs-at, upto}
 use Rattle.steps.specs.Generate.{Scope, Slot, Ref, r-word, r-arr, find, words-of, arrays-of, slots-from, slots-of, shapes-of, is-wide, gen-arr, wide-of, the-arr, arr-arg, opnds, count, sizeE, sizeEs, sizeS, sizeB, genE, genEs, genS, genB, gen-body}
-use Rattle.steps.proofs.Out.{At, Cfg, mk, mst, Out, done, stepd, trapd, spentd, less, Passes, bind}
-use Rattle.steps.proofs.Vars.{Vars, Keeps, vars-keep, wides, wides-nth, arr-get, var-none, nums, arrs-of, kinds, HasAll}
+use Rattle.steps.proofs.Outcome.{At, Cfg, mk, mst, Out, done, stepd, trapd, spentd, less, Passes, bind}
+use Rattle.steps.proofs.Variables.{Vars, Keeps, vars-keep, wides, wides-nth, arr-get, var-none, nums, arrs-of, kinds, HasAll}
 
 -- the program, its steps, and a number above the weight of each function
 pub record Env : Type 0 where

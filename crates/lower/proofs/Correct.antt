@@ -21,10 +21,10 @@ use Rattle.steps.specs.Generate.{gen-prog}
 use Rattle.steps.specs.Correct.{MidRight}
 use Rattle.lower.specs.Lower.{compile, main-no}
 use Rattle.lower.specs.Correct.{Bare-right, Compiled-right, Compiled-sound, Compiled-fits, Compiled-short}
-use Rattle.steps.proofs.Static.{mid-holds}
-use Rattle.lower.proofs.Back.{Ended}
+use Rattle.steps.proofs.Checked.{mid-holds}
+use Rattle.lower.proofs.Follows.{Ended}
 use Rattle.lower.proofs.BackEnd.{Backs, Same, Stopped, first-state, the-back-end}
-use Rattle.lower.proofs.Tames.{Begins, begins, bare-low}
+use Rattle.lower.proofs.Tame.{Begins, begins, bare-low}
 use Rattle.grammar.specs.Bounds.{words}
 use Rattle.grammar.proofs.Look.{and-0}
 use Rattle.grammar.proofs.Size.{words-bound}

@@ -12,9 +12,9 @@ use Rattle.language.specs.Syntax.{pick, nth}
 use Rattle.language.specs.Meaning.{single, div0, binary}
 use Rattle.language.specs.Words.{all, bit, odd, bits, xor1, andW, orW, xorW, add, sub, mul, shl, shr}
 use Rattle.lower.specs.Lower.{Op, Op1, bin-of, high, low, no-bin, o-add, o-and, o-div, o-eq, o-ge, o-gt, o-le, o-lt, o-mul, o-ne, o-or, o-rem, o-shl, o-shr, o-sub, o-xor, op-of, op1-of, ops, ops1, u-flag, u-inv, u-neg, u-not, un-of}
-use Rattle.lower.proofs.Laid.{Seg, past}
-use Rattle.lower.proofs.Low.{Env, V, LI, l-ecall, Steps, here, _▸_, d-num, d-alui, d-alu, d-mul}
-use Rattle.lower.proofs.Going.{taken-bnz, left-bnz}
+use Rattle.lower.proofs.InRow.{Seg, past}
+use Rattle.lower.proofs.Instructions.{Env, V, LI, l-ecall, Steps, here, _▸_, d-num, d-alui, d-alu, d-mul}
+use Rattle.lower.proofs.Runs.{taken-bnz, left-bnz}
 
 -- facts on words
 pub num-is : (n : ℕ) → n < all → add (high n) (low n) ≡ n

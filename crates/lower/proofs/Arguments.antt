@@ -14,11 +14,11 @@ use borrow.Author.Tests.{eq-eqb, ne-eqb, lt-ltb, le-leb}
 use Rattle.language.specs.Syntax.{pick, nth}
 use Rattle.language.specs.Words.{all}
 use Rattle.lower.specs.Lower.{loads, stores}
-use Rattle.lower.proofs.Laid.{Seg, past}
+use Rattle.lower.proofs.InRow.{Seg, past}
 use Rattle.steps.specs.Steps.{Places, args}
-use Rattle.lower.proofs.Rows.{length-put, nth-put-same, nth-put-other, none-some}
-use Rattle.lower.proofs.Low.{Env, V, gp, wr, sets, keeps, Steps, here, _▸_, d-lw, d-sw}
-use Rattle.lower.proofs.Ops.{regs-to}
+use Rattle.lower.proofs.Lists.{length-put, nth-put-same, nth-put-other, none-some}
+use Rattle.lower.proofs.Instructions.{Env, V, gp, wr, sets, keeps, Steps, here, _▸_, d-lw, d-sw}
+use Rattle.lower.proofs.Operators.{regs-to}
 use Rattle.language.specs.Meaning.{on-some}
 use Rattle.lower.proofs.Match.{Frame}
 

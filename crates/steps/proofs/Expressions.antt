@@ -14,10 +14,10 @@ use Rattle.language.specs.Words.{bit}
 use Rattle.language.specs.Meaning.{Cells, reads-from, on-some, on-val, calls, new-arrs, arr-of, get-var, get-arr, State, Result, val, vals, trap, spent, Value, word, array, Top, resolve, as-word, as-fn, as-table, either, with-word, div0, binary, single, Task, t-e, t-es, t-call, run}
 use Rattle.steps.specs.Steps.{Step, s-num, s-copy, s-bin, s-un, s-flag, s-getw, s-jump, s-jz, s-call, s-table, s-idx, Opnd, args, arr-at, arrs-at, upto, Act, MFn, MProg, Places, upd, Saved}
 use Rattle.steps.specs.Generate.{Scope, find, Ref, r-word, r-arr, ref-word, own-at, at-place, unless, sizeV, genV, gen-arr, wide-of, the-arr, arr-arg, opnds, count, sizeE, sizeEs, genE, genEs}
-use Rattle.steps.proofs.Out.{At, at-left, at-right, Cfg, mk, Out, done, spentd, less}
+use Rattle.steps.proofs.Outcome.{At, at-left, at-right, Cfg, mk, Out, done, spentd, less}
 use Rattle.steps.proofs.Rules.{r-num, r-copy, r-bin, r-bin-trap, r-un, r-flag, r-getw, r-jump, r-jz, r-call, r-table, r-table-trap, r-in, r-in-trap, r-idx, r-idx-trap, r-len}
-use Rattle.steps.proofs.Vars.{Vars, Keeps, find-lt, some-inj, upd-same, upd-other, none-some, var-get, var-none, wides, nums, arrs-of, kinds, HasAll, fresh-new}
-use Rattle.steps.proofs.Sim.{Env, Fun, wE, wEs, WfVar, own, top, WfArr, WfE, WfEs, Calls, Tables, ArrAt, arr-there, cells-there, Called, Pre, pre-on, Stays, stays-refl, stays-trans, QE, q-val, e-done, on-value, Sim, Linked, Compiled, QEs, q-vals, QC, q-call, es-done, on-values, es-then, on-call}
+use Rattle.steps.proofs.Variables.{Vars, Keeps, find-lt, some-inj, upd-same, upd-other, none-some, var-get, var-none, wides, nums, arrs-of, kinds, HasAll, fresh-new}
+use Rattle.steps.proofs.Match.{Env, Fun, wE, wEs, WfVar, own, top, WfArr, WfE, WfEs, Calls, Tables, ArrAt, arr-there, cells-there, Called, Pre, pre-on, Stays, stays-refl, stays-trans, QE, q-val, e-done, on-value, Sim, Linked, Compiled, QEs, q-vals, QC, q-call, es-done, on-values, es-then, on-call}
 
 len-opt : (o : Option Opnd) (a b : List Step) (m n : ℕ) → length a ≡ m → length b ≡ n → length (opt o a (λ z. b)) ≡ opt o m (λ z. n)
 len-opt none a b m n h g = h

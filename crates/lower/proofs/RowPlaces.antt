@@ -8,10 +8,10 @@ use native.Mathlib.Nat.{add-zero, suc-add, add-suc}
 use lib.ListN.{length, drop, length-append}
 use Rattle.language.specs.Syntax.{opt, nth}
 use Rattle.lower.specs.Lower.{Op, at-in, at-of, code-of, entry-in, entry-of, fun-of, fun-row, fun-width, funs-row, lower, o-add, o-and, o-div, o-eq, o-ge, o-gt, o-le, o-lt, o-mul, o-ne, o-or, o-rem, o-shl, o-shr, o-sub, o-xor, op-of, ops, others, pro-width, prologue, row-of, width}
-use Rattle.lower.proofs.Laid.{Laid, Neat, Seg, past}
+use Rattle.lower.proofs.InRow.{Laid, Neat, Seg, past}
 use Rattle.steps.specs.Steps.{Step, s-num, s-copy, s-bin, s-un, s-flag, s-getw, s-setw, s-jump, s-jz, s-call, s-out, s-ret, s-table, s-in, s-idx, s-put, s-len, Opnd, o-top, o-own, MFn, MProg}
-use Rattle.lower.proofs.Rows.{none-some}
-use Rattle.lower.proofs.Low.{LI}
+use Rattle.lower.proofs.Lists.{none-some}
+use Rattle.lower.proofs.Instructions.{LI}
 
 -- how many instructions a step has doesn't depend on where it stands
 ops-width : (p q : ℕ) (o : Op) → length (ops p o) ≡ length (ops q o)
@@ -79,9 +79,6 @@ code-width en at en1 at1 m f (s ∷ ss) q q1 =
     let a : length (lower en at m f q s ++ code-of en at m f ss (q + width m f s)) ≡ length (lower en at m f q s) + length (code-of en at m f ss (q + width m f s)) = length-append _ _ in
     let b : length (lower en1 at1 m f q1 s ++ code-of en1 at1 m f ss (q1 + width m f s)) ≡ length (lower en1 at1 m f q1 s) + length (code-of en1 at1 m f ss (q1 + width m f s)) = length-append _ _ in
     omega (arith, a, b, width-is en at m f q s, width-is en1 at1 m f q1 s, code-width en at en1 at1 m f ss (q + width m f s) (q1 + width m f s))
-
-pro-is : (q : ℕ) (f : MFn) → length (prologue q f) ≡ pro-width f
-pro-is q f = refl
 
 pub fun-width-is : (en : ℕ → ℕ) (m : MProg) (f : MFn) (q : ℕ) → length (fun-row en m f q) ≡ fun-width m f
 fun-width-is en m f q =

@@ -13,7 +13,7 @@ use Rattle.language.specs.Syntax.{pick, opt, nth, put}
 use Rattle.language.specs.Words.{bit, odd, bits, andW}
 use Rattle.language.specs.Meaning.{Cells}
 use Rattle.lower.specs.Lower.{lens, area, begin-of, size-of, flat, kept, part, plens, place}
-use Rattle.lower.proofs.Rows.{length-put, none-some, nth-left, nth-right, put-left, put-right}
+use Rattle.lower.proofs.Lists.{length-put, none-some, nth-left, nth-right, put-left, put-right}
 
 pub flat-long : (cs : List Cells) → length (flat cs) ≡ area (lens cs)
 flat-long [] = refl

@@ -10,10 +10,10 @@ use lib.ListN.{length, take, drop}
 use lib.Seq.{take-append-seam, drop-append-seam, drop-append-add}
 use Rattle.processor.specs.Machine.{Machine, Next, goes, halts, faults, step, then, after}
 use Rattle.steps.specs.Steps.{MSt, MNext, m-goes, m-ends, m-traps, m-stuck, m-after}
-use Rattle.lower.proofs.Low.{Env, V, base}
-use Rattle.lower.proofs.Real.{Sees}
+use Rattle.lower.proofs.Instructions.{Env, V, base}
+use Rattle.lower.proofs.Realized.{Sees}
 use Rattle.lower.proofs.Match.{Ctx}
-use Rattle.lower.proofs.Back.{Ended, Is, Short, Follows, follows}
+use Rattle.lower.proofs.Follows.{Ended, Is, Short, Follows, follows}
 
 -- what has ended stays so
 pub stays-ended : (j k c y : ℕ) (m z : Machine) → after k m ≡ halts c y z → after (k + j) m ≡ halts c y z

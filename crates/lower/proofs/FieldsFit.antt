@@ -7,14 +7,14 @@ use Prim.Native.Nat.{ℕ, zero, suc, _+_, _*_, _≤_, _<_}
 use native.Mathlib.Omega.{arith}
 use lib.ListN.{length}
 use Rattle.language.specs.Syntax.{nth}
-use Rattle.lower.proofs.Rows.{nth-in}
+use Rattle.lower.proofs.Lists.{nth-in}
 use Rattle.language.specs.Words.{all}
 use Rattle.lower.specs.Lower.{lens, size-of, array-at, tab-long, tab-at, masks, top, Op, Op1, word-no, frame-size, fun-of, loads, low, lower, o-add, o-and, o-div, o-eq, o-ge, o-gt, o-le, o-lt, o-mul, o-ne, o-or, o-rem, o-shl, o-shr, o-sub, o-xor, op-of, op1-of, ops, ops1, prologue, slots, stores, u-flag, u-inv, u-neg, u-not}
-use Rattle.lower.proofs.Laid.{Firm, Neat, past}
+use Rattle.lower.proofs.InRow.{Firm, Neat, past}
 use Rattle.steps.specs.Steps.{Step, s-num, s-copy, s-bin, s-un, s-flag, s-getw, s-setw, s-jump, s-jz, s-call, s-out, s-ret, s-table, s-in, s-idx, s-put, s-len, Opnd, o-top, o-own, MFn, MProg}
 use Rattle.processor.specs.Instr.{Near, Wf}
 use Rattle.lower.specs.Code.{LI, l-sw, l-jal, l-callr, l-num, to-real}
-use Rattle.lower.proofs.Ops.{past-both}
+use Rattle.lower.proofs.Operators.{past-both}
 
 abbrev pub Row-fits : ℕ → List LI → Type 0
 Row-fits p [] = Unit {0}
