@@ -172,6 +172,9 @@ down-to m i = (all - 4 * (data-words m - i)) % all
 abbrev pub word-no : MProg → ℕ → ℕ
 word-no m i = down-to m (data-size m + i)
 
+abbrev pub array-size : MProg → ℕ → ℕ
+array-size m a = size-of (lens (m .arrays)) a
+
 abbrev pub array-at : MProg → ℕ → ℕ
 array-at m a = down-to m (place (live-of m) (m .words) (lens (m .arrays)) a)
 
@@ -220,31 +223,52 @@ slots f = f .places
 abbrev pub frame-size : MFn → ℕ
 frame-size f = suc (slots f)
 
+-- the number n in register r
+abbrev pub number : ℕ → ℕ → List LI
+number r n = l-lui r (top n) ∷ l-alui Addi r r (low n) ∷ []
+
+-- the end with trap c
+abbrev pub traps : ℕ → List LI
+traps c = l-num 10 c ∷ l-num 17 3 ∷ l-ecall ∷ []
+
+-- at place p: trap 1 unless register 5 is below n; it is looked at before anything is read or written
+abbrev pub inside : ℕ → ℕ → List LI
+inside p n = number 6 n ++ (l-alu Sltu 7 5 6 ∷ l-bnz 7 (suc (suc (suc (suc (suc (suc (suc p))))))) ∷ traps 1)
+
+-- the address n from the floor, but for its low part, in register r
+abbrev pub near-floor : ℕ → ℕ → List LI
+near-floor r n = l-lui r (top n) ∷ l-addg r r ∷ []
+
+-- the same of the word whose number is in register 5, in register 6
+abbrev pub element : ℕ → List LI
+element n = near-floor 6 n ++ (l-alu Add 5 5 5 ∷ l-alu Add 5 5 5 ∷ l-alu Add 6 6 5 ∷ [])
+
 -- at place p, of the function f whose steps stand at 'at'; functions begin at 'entry'
 abbrev pub lower : (ℕ → ℕ) → (ℕ → ℕ) → MProg → MFn → ℕ → Step → List LI
-lower entry at m f p (s-num d n) = l-lui 5 (top n) ∷ l-alui Addi 5 5 (low n) ∷ l-sw 5 (suc d) ∷ []
+lower entry at m f p (s-num d n) = number 5 n ++ (l-sw 5 (suc d) ∷ [])
 lower entry at m f p (s-copy d a) = l-lw 5 (suc a) ∷ l-sw 5 (suc d) ∷ []
 lower entry at m f p (s-bin o d a b) = l-lw 5 (suc a) ∷ l-lw 6 (suc b) ∷ (ops (suc (suc p)) (op-of o) ++ (l-sw 7 (suc d) ∷ []))
 lower entry at m f p (s-un o d a) = l-lw 5 (suc a) ∷ (ops1 (op1-of o) ++ (l-sw 7 (suc d) ∷ []))
 lower entry at m f p (s-flag d a) = l-lw 5 (suc a) ∷ (ops1 u-flag ++ (l-sw 7 (suc d) ∷ []))
-lower entry at m f p (s-getw d i) = l-lui 5 (top (word-no m i)) ∷ l-addg 5 5 ∷ l-lwr 6 5 (low (word-no m i)) ∷ l-sw 6 (suc d) ∷ []
-lower entry at m f p (s-setw i a) = l-lui 5 (top (word-no m i)) ∷ l-addg 5 5 ∷ l-lw 6 (suc a) ∷ l-swr 6 5 (low (word-no m i)) ∷ []
+lower entry at m f p (s-getw d i) = near-floor 5 (word-no m i) ++ (l-lwr 6 5 (low (word-no m i)) ∷ l-sw 6 (suc d) ∷ [])
+lower entry at m f p (s-setw i a) = near-floor 5 (word-no m i) ++ (l-lw 6 (suc a) ∷ l-swr 6 5 (low (word-no m i)) ∷ [])
 lower entry at m f p (s-jump t) = l-j (at t) ∷ []
 lower entry at m f p (s-jz a t) = l-lw 5 (suc a) ∷ l-bnz 5 (suc (suc (suc p))) ∷ l-j (at t) ∷ []
 lower entry at m f p (s-call d g k n os) = loads 10 k n ++ (l-jal (entry g) ∷ l-sw 10 (suc d) ∷ [])
 lower entry at m f p (s-out a) = l-lw 10 (suc a) ∷ l-num 17 1 ∷ l-ecall ∷ []
-lower entry at m f p (s-ret a) = l-lw 10 (suc a) ∷ l-lw 1 0 ∷ l-lui 6 (top (4 * frame-size f)) ∷ l-alui Addi 6 6 (low (4 * frame-size f)) ∷ l-upr 6 ∷ l-ret ∷ []
-lower entry at m f p (s-table d i t k n os) = l-lw 5 (suc i) ∷ l-lui 6 (top (tab-long m t)) ∷ l-alui Addi 6 6 (low (tab-long m t)) ∷ l-alu Sltu 7 5 6 ∷ l-bnz 7 (suc (suc (suc (suc (suc (suc (suc (suc p)))))))) ∷ l-num 10 1 ∷ l-num 17 3 ∷ l-ecall ∷ l-lui 6 (top (tab-at m t)) ∷ l-addg 6 6 ∷ l-alu Add 5 5 5 ∷ l-alu Add 5 5 5 ∷ l-alu Add 6 6 5 ∷ l-lwr 6 6 (low (tab-at m t)) ∷ l-addg 6 6 ∷ (loads 10 k n ++ (l-callr 6 ∷ l-sw 10 (suc d) ∷ []))
-lower entry at m f p (s-in d) = l-num 17 2 ∷ l-ecall ∷ l-bnz 11 (suc (suc (suc (suc (suc (suc p)))))) ∷ l-num 10 3 ∷ l-num 17 3 ∷ l-ecall ∷ l-sw 10 (suc d) ∷ []
-lower entry at m f p (s-idx d (o-top a) i) = l-lw 5 (suc i) ∷ l-lui 6 (top (size-of (lens (m .arrays)) a)) ∷ l-alui Addi 6 6 (low (size-of (lens (m .arrays)) a)) ∷ l-alu Sltu 7 5 6 ∷ l-bnz 7 (suc (suc (suc (suc (suc (suc (suc (suc p)))))))) ∷ l-num 10 1 ∷ l-num 17 3 ∷ l-ecall ∷ l-lui 6 (top (array-at m a)) ∷ l-addg 6 6 ∷ l-alu Add 5 5 5 ∷ l-alu Add 5 5 5 ∷ l-alu Add 6 6 5 ∷ l-lwr 7 6 (low (array-at m a)) ∷ l-sw 7 (suc d) ∷ []
+lower entry at m f p (s-ret a) = l-lw 10 (suc a) ∷ l-lw 1 0 ∷ (number 6 (4 * frame-size f) ++ (l-upr 6 ∷ l-ret ∷ []))
+lower entry at m f p (s-table d i t k n os) = l-lw 5 (suc i) ∷ (inside (suc p) (tab-long m t) ++ (element (tab-at m t) ++ (l-lwr 6 6 (low (tab-at m t)) ∷ l-addg 6 6 ∷ (loads 10 k n ++ (l-callr 6 ∷ l-sw 10 (suc d) ∷ [])))))
+lower entry at m f p (s-in d) = l-num 17 2 ∷ l-ecall ∷ l-bnz 11 (suc (suc (suc (suc (suc (suc p)))))) ∷ (traps 3 ++ (l-sw 10 (suc d) ∷ []))
+lower entry at m f p (s-idx d (o-top a) i) = l-lw 5 (suc i) ∷ (inside (suc p) (array-size m a) ++ (element (array-at m a) ++ (l-lwr 7 6 (low (array-at m a)) ∷ l-sw 7 (suc d) ∷ [])))
 lower entry at m f p (s-idx d (o-own j) i) = []
-lower entry at m f p (s-put w (o-top a) i b) = l-lw 5 (suc i) ∷ l-lui 6 (top (size-of (lens (m .arrays)) a)) ∷ l-alui Addi 6 6 (low (size-of (lens (m .arrays)) a)) ∷ l-alu Sltu 7 5 6 ∷ l-bnz 7 (suc (suc (suc (suc (suc (suc (suc (suc p)))))))) ∷ l-num 10 1 ∷ l-num 17 3 ∷ l-ecall ∷ l-lui 6 (top (array-at m a)) ∷ l-addg 6 6 ∷ l-alu Add 5 5 5 ∷ l-alu Add 5 5 5 ∷ l-alu Add 6 6 5 ∷ l-lw 7 (suc b) ∷ (masks w ++ (l-swr 7 6 (low (array-at m a)) ∷ []))
+lower entry at m f p (s-put w (o-top a) i b) = l-lw 5 (suc i) ∷ (inside (suc p) (array-size m a) ++ (element (array-at m a) ++ (l-lw 7 (suc b) ∷ (masks w ++ (l-swr 7 6 (low (array-at m a)) ∷ [])))))
 lower entry at m f p (s-put w (o-own j) i b) = []
-lower entry at m f p (s-len d (o-top a)) = l-lui 5 (top (size-of (lens (m .arrays)) a)) ∷ l-alui Addi 5 5 (low (size-of (lens (m .arrays)) a)) ∷ l-sw 5 (suc d) ∷ []
+lower entry at m f p (s-len d (o-top a)) = number 5 (array-size m a) ++ (l-sw 5 (suc d) ∷ [])
 lower entry at m f p (s-len d (o-own j)) = []
 
+-- how a function begins: no room unless the stack has its frame; then the frame, the way back, the parameters, and noughts for the variables
 abbrev pub prologue : ℕ → MFn → List LI
-prologue p f = l-sp 5 ∷ l-room 5 5 ∷ l-lui 6 (top (4 * frame-size f)) ∷ l-alui Addi 6 6 (low (4 * frame-size f)) ∷ l-bge 5 6 (suc (suc (suc (suc (suc (suc (suc p))))))) ∷ l-num 17 4 ∷ l-ecall ∷ l-downr 6 ∷ l-sw 1 0 ∷ (stores (λ j. 10 + j) 0 (f .params) ++ (l-num 5 0 ∷ stores (λ j. 5) (f .params) (f .vars)))
+prologue p f = l-sp 5 ∷ l-room 5 5 ∷ (number 6 (4 * frame-size f) ++ (l-bge 5 6 (suc (suc (suc (suc (suc (suc (suc p))))))) ∷ l-num 17 4 ∷ l-ecall ∷ l-downr 6 ∷ l-sw 1 0 ∷ (stores (λ j. 10 + j) 0 (f .params) ++ (l-num 5 0 ∷ stores (λ j. 5) (f .params) (f .vars)))))
 
 -- the last instructions: the end of the program
 abbrev pub stub : List LI
