@@ -1,2 +1,4 @@
--- Images and how they are loaded, as it must be believed.
+-- Images, how they are loaded, and what the loader promises.
 pub mod Image
+pub mod Rows
+pub mod Place

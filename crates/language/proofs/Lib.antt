@@ -1,6 +1,8 @@
-pub mod Ahead
-pub mod Typed
+-- The proofs of the laws.
+pub mod Growth
+pub mod WellTyped
 pub mod Tops
-pub mod Calc
+pub mod WordResults
 pub mod Safe
+pub mod WordsStay
 pub mod Samples

@@ -1,9 +1,7 @@
--- The three programs, followed by the definitions.
-use mathlib.Core.Path.{_≡_, refl}
-use Rattle.language.specs.Syntax.{stage}
-use Rattle.language.specs.Meaning.{means, binary, single, div0}
-use Rattle.language.specs.Checks.{ok}
-use Rattle.language.specs.Samples.{ending, factorial, sums, tables, Worked}
+-- The three programs of Samples, run by the definitions.
+use mathlib.Core.Path.{refl}
+use Rattle.language.specs.Meaning.{binary, single, div0}
+use Rattle.language.specs.Samples.{factorial, sums, tables, Worked}
 
 pub worked : Worked
 unfolding factorial sums tables binary single div0

@@ -1,4 +1,5 @@
--- The language, as it must be believed, and the laws that are proved of it.
+-- The language as it must be believed (Syntax, Words, Meaning, Checks), what can be seen of a run (Observe),
+-- the laws that are proved of it (Laws), and worked programs (Samples).
 pub mod Syntax
 pub mod Words
 pub mod Meaning

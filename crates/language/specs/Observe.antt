@@ -9,6 +9,7 @@ pub data Front {A : Type 0} : List A → List A → Type 0 where
   none-yet : {s : List A} → Front [] s
   and-so : {x : A} {s t : List A} → Front s t → Front (x ∷ s) (x ∷ t)
 
+-- the state that a result is in; only where nothing is meant there is none
 abbrev pub state-of : Result → Option State
 state-of (val v s) = some s
 state-of (vals vs s) = some s
@@ -20,6 +21,7 @@ state-of (trap c s) = some s
 state-of (spent s) = some s
 state-of wrong = none
 
+-- what was put out by then
 abbrev pub outs-of : Result → List ℕ
 outs-of r = of (state-of r)
   where

@@ -1,9 +1,9 @@
 -- Three programs as trees, and how their runs end: the meaning tried on examples.
 use mathlib.Core.Path.{_≡_}
-use mathlib.Core.Bool.{true, false}
+use mathlib.Core.Bool.{true}
 use mathlib.Core.List.{List, [], _∷_}
 use Prim.Native.Nat.{ℕ}
-use Rattle.language.specs.Syntax.{Name, Expr, num, var, bin, idx, len, call, by-table, input, Exprs, no, and-then, Stmt, set1, store1, ex1, out1, if1, while1, ret1, Block, end, seq1, Kind, k-word, k-arr, Param, Arr, Fn, Item, i-table, i-fn, i-use, File, Prog, stage}
+use Rattle.language.specs.Syntax.{Name, Expr, num, var, bin, idx, len, call, by-table, input, Exprs, no, and-then, set1, store1, ex1, out1, if1, while1, ret1, Block, end, seq1, k-word, k-arr, Param, Arr, Item, i-table, i-fn, i-use, Prog, stage}
 use Rattle.language.specs.Meaning.{Value, word, array, Result, val, vals, fine, broke, goes-on, gives, trap, spent, wrong, means, w-main}
 use Rattle.language.specs.Checks.{ok}
 

@@ -1,18 +1,21 @@
--- Programs of several files, as trees, and the stage of each form.
-use mathlib.Core.Bool.{Bool, true, false, _&&_, _||_, not}
-use mathlib.Core.List.{List, [], _∷_, _++_}
+-- Programs as trees: expressions, statements, functions, files; and the stage of each form. All that is said of programs is said of these trees.
+use mathlib.Core.Bool.{Bool, true, false, _&&_, _||_}
+use mathlib.Core.List.{List, [], _∷_}
 use mathlib.Core.Option.{Option, some, none}
-use Prim.Native.Nat.{ℕ, zero, suc, _+_, max}
+use Prim.Native.Nat.{ℕ, zero, suc, max}
 use lib.Dec.{eqb}
 
+-- the first if the test holds, else the second
 abbrev pub pick : {A : Type 0} → Bool → A → A → A
 pick true a b = a
 pick false a b = b
 
+-- what to do with what was found, after what to give if nothing was
 abbrev pub opt : {A C : Type 0} → Option A → C → (A → C) → C
 opt none c f = c
 opt (some x) c f = f x
 
+-- the element with a number, counted from 0; and the list with that element replaced, the same list if there is none
 abbrev pub nth : {A : Type 0} → List A → ℕ → Option A
 nth [] n = none
 nth (x ∷ xs) zero = some x
@@ -23,6 +26,7 @@ put [] n v = []
 put (x ∷ xs) zero v = v ∷ xs
 put (x ∷ xs) (suc n) v = x ∷ put xs n v
 
+-- a name is the bytes of its letters
 abbrev pub Name : Type 0
 Name = List ℕ
 
@@ -34,44 +38,48 @@ same (x ∷ xs) (y ∷ ys) = eqb x y && same xs ys
 
 abbrev pub listed : Name → List Name → Bool
 listed x [] = false
-listed x (y ∷ ys) = same x y || listed x ys
+listed x (y ∷ ys) = same y x || listed x ys
 
--- operators between two: 0 + 1 - 2 * 3 / 4 % 5 == 6 != 7 < 8 <= 9 > 10 >= 11 & 12 | 13 ^ 14 << 15 >>; before one: 0 minus 1 not 2 all bits turned
+-- Operators are numbered.
+-- between two:  0 +   1 -   2 *   3 /   4 %   5 ==   6 !=   7 <   8 <=   9 >   10 >=   11 &   12 |   13 ^   14 <<   15 >>
+-- before one:   0 -   1 !   2 ~
 mutual
   pub data Expr : Type 0 where
-    num : ℕ → Expr
-    var : Name → Expr
-    bin : ℕ → Expr → Expr → Expr
-    un : ℕ → Expr → Expr
-    and1 : Expr → Expr → Expr
-    or1 : Expr → Expr → Expr
-    idx : Name → Expr → Expr
-    len : Name → Expr
-    call : Name → Exprs → Expr
-    by-table : Name → Expr → Exprs → Expr
-    input : Expr
+    num : ℕ → Expr  -- 7
+    var : Name → Expr  -- x
+    bin : ℕ → Expr → Expr → Expr  -- x + y
+    un : ℕ → Expr → Expr  -- !x
+    and1 : Expr → Expr → Expr  -- x && y
+    or1 : Expr → Expr → Expr  -- x || y
+    idx : Name → Expr → Expr  -- a[i]
+    len : Name → Expr  -- len(a)
+    call : Name → Exprs → Expr  -- f(x, y)
+    by-table : Name → Expr → Exprs → Expr  -- call t[i](x, y)
+    input : Expr  -- in()
 
+  -- the arguments of a call
   pub data Exprs : Type 0 where
     no : Exprs
     and-then : Expr → Exprs → Exprs
 
 mutual
   pub data Stmt : Type 0 where
-    set1 : Name → Expr → Stmt
-    store1 : Name → Expr → Expr → Stmt
-    ex1 : Expr → Stmt
-    out1 : Expr → Stmt
-    if1 : Expr → Block → Block → Stmt
-    while1 : Expr → Block → Stmt
-    ret1 : Expr → Stmt
-    break1 : Stmt
-    next1 : Stmt
+    set1 : Name → Expr → Stmt  -- x = e;
+    store1 : Name → Expr → Expr → Stmt  -- a[i] = e;
+    ex1 : Expr → Stmt  -- e;
+    out1 : Expr → Stmt  -- out e;
+    if1 : Expr → Block → Block → Stmt  -- if e { .. } else { .. }
+    while1 : Expr → Block → Stmt  -- while e { .. }
+    ret1 : Expr → Stmt  -- return e;
+    break1 : Stmt  -- break;
+    next1 : Stmt  -- continue;
 
+  -- statements one after another
   pub data Block : Type 0 where
     end : Block
     seq1 : Stmt → Block → Block
 
--- a word, or an array of words (true) or bytes (false)
+-- what a parameter is: a word, or an array of words (true) or of bytes (false)
 pub data Kind : Type 0 where
   k-word : Kind
   k-arr : Bool → Kind
@@ -80,11 +88,13 @@ pub record Param : Type 0 where
   pub name : Name
   pub kind : Kind
 
+-- an array that is declared with its size: of words if it is wide, else of bytes
 pub record Arr : Type 0 where
   pub name : Name
   pub wide : Bool
   pub size : ℕ
 
+-- a function: its parameters, its variables, which are words, its own arrays, its body
 pub record Fn : Type 0 where
   pub name : Name
   pub params : List Param
@@ -92,22 +102,31 @@ pub record Fn : Type 0 where
   pub arrs : List Arr
   pub body : Block
 
+-- what stands at the top of a file
 pub data Item : Type 0 where
-  i-word : Name → Item
-  i-arr : Arr → Item
-  i-data : Bool → Name → List ℕ → Item
-  i-table : Name → List Name → Item
-  i-fn : Fn → Item
-  i-use : Name → List Name → Item
+  i-word : Name → Item  -- var x;
+  i-arr : Arr → Item  -- array a[100]; or bytes b[9];
+  i-data : Bool → Name → List ℕ → Item  -- array a = 3, 5; (true) or bytes b = "text"; (false)
+  i-table : Name → List Name → Item  -- table t = f, g;
+  i-fn : Fn → Item  -- fn f(x, a[], b[:]) { .. }
+  i-use : Name → List Name → Item  -- use other: x, y;
 
 pub record File : Type 0 where
   pub name : Name
   pub items : List Item
 
+-- files one after another; the first has main
 abbrev pub Prog : Type 0
 Prog = List File
 
--- stages: 0 the core (one file, words, functions, out); 1 global arrays and in; 2 arrays in functions and as parameters; 3 several files; 4 data with values; 5 bytes; 6 tables of functions
+-- A program's stage is the highest of its forms' stages.
+-- 0  the core: one file, words, functions, all operators, out
+-- 1  arrays of words at the top, in
+-- 2  arrays in functions and as parameters, len
+-- 3  several files
+-- 4  arrays with values
+-- 5  bytes
+-- 6  tables of functions
 abbrev mutual
   pub stageE : Expr → ℕ
   stageE (num n) = 0
@@ -142,6 +161,7 @@ abbrev mutual
   stageB end = 0
   stageB (seq1 s b) = max (stageS s) (stageB b)
 
+-- parameters, own arrays, what stands at the top
 abbrev pub stageK : Kind → ℕ
 stageK k-word = 0
 stageK (k-arr true) = 2
@@ -171,6 +191,7 @@ abbrev pub stageFs : Prog → ℕ
 stageFs [] = 0
 stageFs (f ∷ fs) = max (stageIs (f .items)) (stageFs fs)
 
+-- two files and more are of stage 3 even if they use nothing of one another
 abbrev pub stage : Prog → ℕ
 stage [] = 0
 stage (f ∷ []) = stageIs (f .items)

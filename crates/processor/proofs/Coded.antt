@@ -1,13 +1,16 @@
--- A word that is an instruction's does what the instruction does.
+-- The word of an instruction that fits is decoded as that instruction, so it does what the instruction does. It rests on the
+-- fields of a word (Fields) and on what any word does (Undo).
 use mathlib.Core.Path.{_≡_, refl, sym, ap, ap₂, _∙_}
 use mathlib.Core.Bool.{Bool, true, false, _&&_, _||_, not}
-use mathlib.Core.Option.{Option, some, none}
+use Rattle.std.specs.declared.option.Option.{Option}
+use Rattle.std.specs.declared.option.Option.the-variants.{Some, None}
 use Prim.Native.Nat.{ℕ, _+_, _-_, _*_, _/_, _%_, _^_, _≤_, _<_}
 use native.Mathlib.Omega.{arith}
 use lib.Dec.{T, eqb, ltb, leb, lit<}
-use Rattle.language.specs.Syntax.{pick, opt, nth, put}
-use Rattle.language.specs.Words.{all, bit, andW, orW, xorW, add, sub, mul, shl, shr, up, signed}
-use Rattle.processor.specs.Machine.{Machine, Next, goes, halts, faults, reg, set-reg, at-pc, on, load, less-s, sar, stored, put-reg, envs, f-op, f-rd, f-3, f-1, f-2, f-7, imm-i, imm-s, imm-b, imm-u, imm-j, alu, muls, branch, does}
+use Rattle.language.specs.Syntax.{pick}
+use Rattle.language.specs.Words.{signed}
+use Rattle.processor.specs.Machine.{Machine, f-op, f-rd, f-3, f-1, f-2, f-7, imm-i, imm-s, imm-b, imm-j, does}
+use Rattle.processor.specs.Decode.{branch-of, prod-of, alu-of, imm-of, ok-imm, ok-reg, decode, runs}
 use Rattle.processor.specs.Instr.{word, Near, Even, encode, exec, Wf, cond3, imm3, shift3, shift7, alu3, alu7, prod3}
 use Rattle.processor.specs.declared.instr.Cond.{Cond}
 use Rattle.processor.specs.declared.instr.Cond.the-variants.{Beq, Bne, Blt, Bge, Bltu, Bgeu}
@@ -21,9 +24,10 @@ use Rattle.processor.specs.declared.instr.Prod.{Prod}
 use Rattle.processor.specs.declared.instr.Prod.the-variants.{Mul, Mulhu, Divu, Remu}
 use Rattle.processor.specs.declared.instr.Instr.{Instr}
 use Rattle.processor.specs.declared.instr.Instr.the-variants.{Lui, Auipc, Jal, Jalr, Branch, Lw, Sw, OpImm, OpShift, Op, OpProd, Ecall}
+use Rattle.processor.proofs.Undo.{does-decode}
 use Rattle.processor.proofs.Fields.{Six, six, near-12, near-13, near-21, join-i, join-b, Parts, parts, join-j}
 
--- what `does` looks at of a word
+-- what `decode` looks at of a word
 pub record Fld : Type 0 where
   pub op : ℕ
   pub rd : ℕ
@@ -39,33 +43,24 @@ pub record Fld : Type 0 where
   pub sys : Bool
 
 abbrev pub split : ℕ → Fld
-split w = record { op = f-op w; rd = f-rd w; f3 = f-3 w; r1 = f-1 w; r2 = f-2 w; f7 = f-7 w; ii = imm-i w; is = imm-s w; ib = imm-b w; iu = imm-u w; ij = imm-j w; sys = eqb w 115 }
+split w = record { op = f-op w; rd = f-rd w; f3 = f-3 w; r1 = f-1 w; r2 = f-2 w; f7 = f-7 w; ii = imm-i w; is = imm-s w; ib = imm-b w; iu = w / 4096; ij = imm-j w; sys = eqb w 115 }
 
-abbrev pub ok-i′ : Fld → Bool
-ok-i′ d = pick (eqb (d .f3) 1) (eqb (d .f7) 0) (pick (eqb (d .f3) 5) (eqb (d .f7) 0 || eqb (d .f7) 32) true)
-
-abbrev pub ok-r′ : Fld → Bool
-ok-r′ d = eqb (d .f7) 0 || (eqb (d .f7) 32 && (eqb (d .f3) 0 || eqb (d .f3) 5))
-
-abbrev pub acts : Machine → Fld → Next
-acts m d = pick (eqb (d .op) 55) (put-reg m (d .rd) (d .iu))
-    (pick (eqb (d .op) 23) (put-reg m (d .rd) (add (m .pc) (d .iu)))
-    (pick (eqb (d .op) 111) (goes (at-pc (set-reg m (d .rd) (add (m .pc) 4)) (add (m .pc) (d .ij))))
-    (pick (eqb (d .op) 103 && eqb (d .f3) 0) (goes (at-pc (set-reg m (d .rd) (add (m .pc) 4)) (add (reg m (d .r1)) (d .ii) / 2 * 2)))
-    (pick (eqb (d .op) 99) (opt (branch (d .f3) (reg m (d .r1)) (reg m (d .r2))) faults (λ b. goes (pick b (at-pc m (add (m .pc) (d .ib))) (on m))))
-    (pick (eqb (d .op) 3 && eqb (d .f3) 2) (opt (load m (add (reg m (d .r1)) (d .ii))) faults (put-reg m (d .rd)))
-    (pick (eqb (d .op) 35 && eqb (d .f3) 2) (stored m (add (reg m (d .r1)) (d .is)) (reg m (d .r2)))
-    (pick (eqb (d .op) 19 && ok-i′ d) (put-reg m (d .rd) (alu (d .f3) (eqb (d .f3) 5 && eqb (d .f7) 32) (reg m (d .r1)) (d .ii)))
-    (pick (eqb (d .op) 51 && eqb (d .f7) 1) (opt (muls (d .f3) (reg m (d .r1)) (reg m (d .r2))) faults (put-reg m (d .rd)))
-    (pick (eqb (d .op) 51 && ok-r′ d) (put-reg m (d .rd) (alu (d .f3) (eqb (d .f7) 32) (reg m (d .r1)) (reg m (d .r2))))
-    (pick (d .sys) (envs m (reg m 17)) faults))))))))))
-
-does-acts : (m : Machine) (w : ℕ) → does m w ≡ acts m (split w)
-does-acts m w = refl
+abbrev pub read-as : Fld → Option Instr
+read-as d = pick (eqb (d .op) 55) (Some (Lui (d .rd) (d .iu)))
+    (pick (eqb (d .op) 23) (Some (Auipc (d .rd) (d .iu)))
+    (pick (eqb (d .op) 111) (Some (Jal (d .rd) (d .ij)))
+    (pick (eqb (d .op) 103 && eqb (d .f3) 0) (Some (Jalr (d .rd) (d .r1) (d .ii)))
+    (pick (eqb (d .op) 99) (branch-of (d .f3) (d .r1) (d .r2) (d .ib))
+    (pick (eqb (d .op) 3 && eqb (d .f3) 2) (Some (Lw (d .rd) (d .r1) (d .ii)))
+    (pick (eqb (d .op) 35 && eqb (d .f3) 2) (Some (Sw (d .r1) (d .r2) (d .is)))
+    (pick (eqb (d .op) 19 && ok-imm (d .f3) (d .f7)) (Some (imm-of (d .f3) (eqb (d .f7) 32) (d .rd) (d .r1) (d .ii)))
+    (pick (eqb (d .op) 51 && eqb (d .f7) 1) (prod-of (d .f3) (d .rd) (d .r1) (d .r2))
+    (pick (eqb (d .op) 51 && ok-reg (d .f3) (d .f7)) (Some (Op (alu-of (d .f3) (eqb (d .f7) 32)) (d .rd) (d .r1) (d .r2)))
+    (pick (d .sys) (Some Ecall) None))))))))))
 
 -- below the six fields a form may know one of the numbers; all else stays as it is
 abbrev with-six : ℕ → (op rd f3 r1 r2 f7 ii is ib ij : ℕ) → Fld
-with-six w op rd f3 r1 r2 f7 ii is ib ij = record { op = op; rd = rd; f3 = f3; r1 = r1; r2 = r2; f7 = f7; ii = ii; is = is; ib = ib; iu = imm-u w; ij = ij; sys = eqb w 115 }
+with-six w op rd f3 r1 r2 f7 ii is ib ij = record { op = op; rd = rd; f3 = f3; r1 = r1; r2 = r2; f7 = f7; ii = ii; is = is; ib = ib; iu = w / 4096; ij = ij; sys = eqb w 115 }
 
 module _ (w op rd f3 r1 r2 f7 : ℕ) (s : Six w op rd f3 r1 r2 f7) where
   R-form : split w ≡ with-six w op rd f3 r1 r2 f7 (imm-i w) (imm-s w) (imm-b w) (imm-j w)
@@ -83,7 +78,7 @@ module _ (w op rd f3 r1 r2 f7 : ℕ) (s : Six w op rd f3 r1 r2 f7) where
   J-form : (x : ℕ) → imm-j w ≡ x → split w ≡ with-six w op rd f3 r1 r2 f7 (imm-i w) (imm-s w) (imm-b w) x
   J-form x e = λ i. with-six w (s .at-op i) (s .at-rd i) (s .at-3 i) (s .at-1 i) (s .at-2 i) (s .at-7 i) (imm-i w) (imm-s w) (imm-b w) (e i)
 
-U-form : (w op rd x : ℕ) → f-op w ≡ op → f-rd w ≡ rd → imm-u w ≡ x → split w ≡ record { op = op; rd = rd; f3 = f-3 w; r1 = f-1 w; r2 = f-2 w; f7 = f-7 w; ii = imm-i w; is = imm-s w; ib = imm-b w; iu = x; ij = imm-j w; sys = eqb w 115 }
+U-form : (w op rd x : ℕ) → f-op w ≡ op → f-rd w ≡ rd → w / 4096 ≡ x → split w ≡ record { op = op; rd = rd; f3 = f-3 w; r1 = f-1 w; r2 = f-2 w; f7 = f-7 w; ii = imm-i w; is = imm-s w; ib = imm-b w; iu = x; ij = imm-j w; sys = eqb w 115 }
 U-form w op rd x e1 e2 e3 = λ i. record { op = e1 i; rd = e2 i; f3 = f-3 w; r1 = f-1 w; r2 = f-2 w; f7 = f-7 w; ii = imm-i w; is = imm-s w; ib = imm-b w; iu = e3 i; ij = imm-j w; sys = eqb w 115 }
 
 -- the numbers, where the fields are a number's parts
@@ -153,45 +148,45 @@ alu7-lt Or = lit< tt
 alu7-lt And = lit< tt
 
 -- with the fields known, the tests compute
-module _ (m : Machine) (w rd r1 r2 ii is ib ij : ℕ) where
-  op-acts : (f : Alu) → acts m (with-six w 51 rd (alu3 f) r1 r2 (alu7 f) ii is ib ij) ≡ exec (Op f rd r1 r2) m
-  op-acts Add = refl
-  op-acts Sub = refl
-  op-acts Sll = refl
-  op-acts Slt = refl
-  op-acts Sltu = refl
-  op-acts Xor = refl
-  op-acts Srl = refl
-  op-acts Sra = refl
-  op-acts Or = refl
-  op-acts And = refl
+module _ (w rd r1 r2 ii is ib ij : ℕ) where
+  op-read : (f : Alu) → read-as (with-six w 51 rd (alu3 f) r1 r2 (alu7 f) ii is ib ij) ≡ Some (Op f rd r1 r2)
+  op-read Add = refl
+  op-read Sub = refl
+  op-read Sll = refl
+  op-read Slt = refl
+  op-read Sltu = refl
+  op-read Xor = refl
+  op-read Srl = refl
+  op-read Sra = refl
+  op-read Or = refl
+  op-read And = refl
 
-  prod-acts : (f : Prod) → acts m (with-six w 51 rd (prod3 f) r1 r2 1 ii is ib ij) ≡ exec (OpProd f rd r1 r2) m
-  prod-acts Mul = refl
-  prod-acts Mulhu = refl
-  prod-acts Divu = refl
-  prod-acts Remu = refl
+  prod-read : (f : Prod) → read-as (with-six w 51 rd (prod3 f) r1 r2 1 ii is ib ij) ≡ Some (OpProd f rd r1 r2)
+  prod-read Mul = refl
+  prod-read Mulhu = refl
+  prod-read Divu = refl
+  prod-read Remu = refl
 
-  imm-acts : (f : Imm) (f7 : ℕ) → acts m (with-six w 19 rd (imm3 f) r1 r2 f7 ii is ib ij) ≡ exec (OpImm f rd r1 ii) m
-  imm-acts Addi f7 = refl
-  imm-acts Slti f7 = refl
-  imm-acts Sltiu f7 = refl
-  imm-acts Xori f7 = refl
-  imm-acts Ori f7 = refl
-  imm-acts Andi f7 = refl
+  imm-read : (f : Imm) (f7 : ℕ) → read-as (with-six w 19 rd (imm3 f) r1 r2 f7 ii is ib ij) ≡ Some (OpImm f rd r1 ii)
+  imm-read Addi f7 = refl
+  imm-read Slti f7 = refl
+  imm-read Sltiu f7 = refl
+  imm-read Xori f7 = refl
+  imm-read Ori f7 = refl
+  imm-read Andi f7 = refl
 
-  branch-acts : (c : Cond) (f7 : ℕ) → acts m (with-six w 99 rd (cond3 c) r1 r2 f7 ii is ib ij) ≡ exec (Branch c r1 r2 ib) m
-  branch-acts Beq f7 = refl
-  branch-acts Bne f7 = refl
-  branch-acts Blt f7 = refl
-  branch-acts Bge f7 = refl
-  branch-acts Bltu f7 = refl
-  branch-acts Bgeu f7 = refl
+  branch-read : (c : Cond) (f7 : ℕ) → read-as (with-six w 99 rd (cond3 c) r1 r2 f7 ii is ib ij) ≡ Some (Branch c r1 r2 ib)
+  branch-read Beq f7 = refl
+  branch-read Bne f7 = refl
+  branch-read Blt f7 = refl
+  branch-read Bge f7 = refl
+  branch-read Bltu f7 = refl
+  branch-read Bgeu f7 = refl
 
-  shift-acts : (f : Shift) → acts m (with-six w 19 rd (shift3 f) r1 r2 (shift7 f) ii is ib ij) ≡ exec (OpShift f rd r1 (ii % 32)) m
-  shift-acts Slli = refl
-  shift-acts Srli = refl
-  shift-acts Srai = refl
+  shift-read : (f : Shift) → read-as (with-six w 19 rd (shift3 f) r1 r2 (shift7 f) ii is ib ij) ≡ Some (OpShift f rd r1 (ii % 32))
+  shift-read Slli = refl
+  shift-read Srli = refl
+  shift-read Srai = refl
 
 shift-imm : (f : Shift) (n : ℕ) → n < 32 → signed 12 (shift7 f * 32 + n) % 32 ≡ n
 shift-imm Slli n h = grind arith
@@ -202,35 +197,38 @@ j-imm : (w x : ℕ) → Parts w (x / 4096 % 8) (x / 32768 % 32) (x / 2048 % 2 + 
 j-imm w x p n e = ap (signed 21) (join-j w x e p) ∙ near-21 x n
 
 -- THE THEOREM: nobody has to look at fields again
-pub does-encode : (m : Machine) (i : Instr) → Wf i → does m (encode i) ≡ exec i m
-does-encode m (Lui rd n) h = ap (acts m) (U-form ((n * 32 + rd) * 128 + 55) 55 rd (n * 4096) (omega arith) (omega arith) (omega arith))
-does-encode m (Auipc rd n) h = ap (acts m) (U-form ((n * 32 + rd) * 128 + 23) 23 rd (n * 4096) (omega arith) (omega arith) (omega arith))
-does-encode m (Jal rd x) h =
+pub decode-encode : (i : Instr) → Wf i → decode (encode i) ≡ Some i
+decode-encode (Lui rd n) h = ap read-as (U-form ((n * 32 + rd) * 128 + 55) 55 rd n (omega arith) (omega arith) (omega arith))
+decode-encode (Auipc rd n) h = ap read-as (U-form ((n * 32 + rd) * 128 + 23) 23 rd n (omega arith) (omega arith) (omega arith))
+decode-encode (Jal rd x) h =
     let f3 = x / 4096 % 8 in let r1 = x / 32768 % 32 in let r2 = x / 2048 % 2 + x / 2 % 16 * 2 in let f7 = x / 32 % 64 + x / 1048576 % 2 * 64 in
     let h3 : f3 < 8 = omega arith in let h1 : r1 < 32 = omega arith in let h2 : r2 < 32 = omega arith in
-    ap (acts m) (J-form _ 111 rd f3 r1 r2 f7 (six 111 rd f3 r1 r2 f7 (lit< tt) (h .0) h3 h1 h2) x (j-imm _ x (parts 111 rd f3 r1 r2 f7 (lit< tt) (h .0) h3 h1 h2) (h .1) (h .2)))
-does-encode m (Jalr rd r1 x) h =
+    ap read-as (J-form _ 111 rd f3 r1 r2 f7 (six 111 rd f3 r1 r2 f7 (lit< tt) (h .0) h3 h1 h2) x (j-imm _ x (parts 111 rd f3 r1 r2 f7 (lit< tt) (h .0) h3 h1 h2) (h .1) (h .2)))
+decode-encode (Jalr rd r1 x) h =
     let s = six 103 rd 0 r1 (x % 32) (x / 32 % 128) (lit< tt) (h .0) (lit< tt) (h .1) (omega arith) in
-    ap (acts m) (I-form _ _ _ _ _ _ _ s x (i-imm _ _ _ _ _ x s (h .2)))
-does-encode m (Branch c r1 r2 x) h =
+    ap read-as (I-form _ _ _ _ _ _ _ s x (i-imm _ _ _ _ _ x s (h .2)))
+decode-encode (Branch c r1 r2 x) h =
     let rd = x / 2048 % 2 + x / 2 % 16 * 2 in let f7 = x / 32 % 64 + x / 4096 % 2 * 64 in
     let hr : rd < 32 = omega arith in
     let s = six 99 rd (cond3 c) r1 r2 f7 (lit< tt) hr (cond3-lt c) (h .0) (h .1) in
-    ap (acts m) (B-form _ _ _ _ _ _ _ s x (b-imm _ _ _ _ _ x s (h .2) (h .3))) ∙ (let w = encode (Branch c r1 r2 x) in branch-acts m w rd r1 r2 (imm-i w) (imm-s w) x (imm-j w) c f7)
-does-encode m (Lw rd r1 x) h =
+    ap read-as (B-form _ _ _ _ _ _ _ s x (b-imm _ _ _ _ _ x s (h .2) (h .3))) ∙ (let w = encode (Branch c r1 r2 x) in branch-read w rd r1 r2 (imm-i w) (imm-s w) x (imm-j w) c f7)
+decode-encode (Lw rd r1 x) h =
     let s = six 3 rd 2 r1 (x % 32) (x / 32 % 128) (lit< tt) (h .0) (lit< tt) (h .1) (omega arith) in
-    ap (acts m) (I-form _ _ _ _ _ _ _ s x (i-imm _ _ _ _ _ x s (h .2)))
-does-encode m (Sw r1 r2 x) h =
+    ap read-as (I-form _ _ _ _ _ _ _ s x (i-imm _ _ _ _ _ x s (h .2)))
+decode-encode (Sw r1 r2 x) h =
     let s = six 35 (x % 32) 2 r1 r2 (x / 32 % 128) (lit< tt) (omega arith) (lit< tt) (h .0) (h .1) in
-    ap (acts m) (S-form _ _ _ _ _ _ _ s x (s-imm _ _ _ _ _ x s (h .2)))
-does-encode m (OpImm f rd r1 x) h =
+    ap read-as (S-form _ _ _ _ _ _ _ s x (s-imm _ _ _ _ _ x s (h .2)))
+decode-encode (OpImm f rd r1 x) h =
     let s = six 19 rd (imm3 f) r1 (x % 32) (x / 32 % 128) (lit< tt) (h .0) (imm3-lt f) (h .1) (omega arith) in
-    ap (acts m) (I-form _ _ _ _ _ _ _ s x (i-imm _ _ _ _ _ x s (h .2))) ∙ (let w = encode (OpImm f rd r1 x) in imm-acts m w rd r1 (x % 32) x (imm-s w) (imm-b w) (imm-j w) f (x / 32 % 128))
-does-encode m (OpShift f rd r1 n) h =
+    ap read-as (I-form _ _ _ _ _ _ _ s x (i-imm _ _ _ _ _ x s (h .2))) ∙ (let w = encode (OpImm f rd r1 x) in imm-read w rd r1 (x % 32) x (imm-s w) (imm-b w) (imm-j w) f (x / 32 % 128))
+decode-encode (OpShift f rd r1 n) h =
     let s = six 19 rd (shift3 f) r1 n (shift7 f) (lit< tt) (h .0) (shift3-lt f) (h .1) (h .2) in
-    ap (acts m) (I-form _ _ _ _ _ _ _ s (signed 12 (shift7 f * 32 + n)) (ap (signed 12) (s .at-i))) ∙ (let w = encode (OpShift f rd r1 n) in shift-acts m w rd r1 n (signed 12 (shift7 f * 32 + n)) (imm-s w) (imm-b w) (imm-j w) f) ∙ ap (λ (k : ℕ). exec (OpShift f rd r1 k) m) (shift-imm f n (h .2))
-does-encode m (Op f rd r1 r2) h =
-    ap (acts m) (R-form _ _ _ _ _ _ _ (six 51 rd (alu3 f) r1 r2 (alu7 f) (lit< tt) (h .0) (alu3-lt f) (h .1) (h .2))) ∙ (let w = encode (Op f rd r1 r2) in op-acts m w rd r1 r2 (imm-i w) (imm-s w) (imm-b w) (imm-j w) f)
-does-encode m (OpProd f rd r1 r2) h =
-    ap (acts m) (R-form _ _ _ _ _ _ _ (six 51 rd (prod3 f) r1 r2 1 (lit< tt) (h .0) (prod3-lt f) (h .1) (h .2))) ∙ (let w = encode (OpProd f rd r1 r2) in prod-acts m w rd r1 r2 (imm-i w) (imm-s w) (imm-b w) (imm-j w) f)
-does-encode m Ecall h = refl
+    ap read-as (I-form _ _ _ _ _ _ _ s (signed 12 (shift7 f * 32 + n)) (ap (signed 12) (s .at-i))) ∙ (let w = encode (OpShift f rd r1 n) in shift-read w rd r1 n (signed 12 (shift7 f * 32 + n)) (imm-s w) (imm-b w) (imm-j w) f) ∙ ap (λ (k : ℕ). Some (OpShift f rd r1 k)) (shift-imm f n (h .2))
+decode-encode (Op f rd r1 r2) h =
+    ap read-as (R-form _ _ _ _ _ _ _ (six 51 rd (alu3 f) r1 r2 (alu7 f) (lit< tt) (h .0) (alu3-lt f) (h .1) (h .2))) ∙ (let w = encode (Op f rd r1 r2) in op-read w rd r1 r2 (imm-i w) (imm-s w) (imm-b w) (imm-j w) f)
+decode-encode (OpProd f rd r1 r2) h =
+    ap read-as (R-form _ _ _ _ _ _ _ (six 51 rd (prod3 f) r1 r2 1 (lit< tt) (h .0) (prod3-lt f) (h .1) (h .2))) ∙ (let w = encode (OpProd f rd r1 r2) in prod-read w rd r1 r2 (imm-i w) (imm-s w) (imm-b w) (imm-j w) f)
+decode-encode Ecall h = refl
+
+pub does-encode : (m : Machine) (i : Instr) → Wf i → does m (encode i) ≡ exec i m
+does-encode m i h = does-decode m (encode i) ∙ ap (runs m) (decode-encode i h)

@@ -1,3 +1,4 @@
+-- The contract of further: Further.
 use Rattle.language.proofs.Safe.{further}
 use Rattle.language.proofs.further.Needs as need
 

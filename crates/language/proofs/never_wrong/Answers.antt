@@ -1,3 +1,4 @@
+-- The contract of never_wrong: Never-wrong.
 use Rattle.language.proofs.Safe.{never-wrong}
 use Rattle.language.proofs.never_wrong.Needs as need
 

@@ -1,4 +1,5 @@
-use Rattle.language.proofs.Ahead.{only-grows}
+-- The contract of only_grows: Only-grows.
+use Rattle.language.proofs.Growth.{only-grows}
 use Rattle.language.proofs.only_grows.Needs as need
 
 pub returns : need.returns

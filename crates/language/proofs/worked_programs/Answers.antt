@@ -1,3 +1,4 @@
+-- The contract of worked_programs: Worked.
 use Rattle.language.proofs.Samples.{worked}
 use Rattle.language.proofs.worked_programs.Needs as need
 

@@ -1,19 +1,20 @@
--- Values, bindings and states that fit their declarations.
+-- Values, bindings and states that fit their declarations, and hold small words where that is asked: what a call, an assignment
+-- and a store keep. The invariant (Good) that Safe carries through every run.
 use mathlib.Core.Path.{_≡_, refl, sym, _∙_, ap, ap₂, subst}
-use mathlib.Core.Bool.{Bool, true, false, _&&_, _||_, not}
-use mathlib.Core.List.{List, [], _∷_, _++_, append-assoc, append-nil}
+use mathlib.Core.Bool.{Bool, true, false, _&&_, _||_}
+use mathlib.Core.List.{List, [], _∷_, _++_, append-assoc}
 use mathlib.Core.Logic.{_⊎_, inl, inr, ⊎-elim}
 use mathlib.Core.Option.{Option, some, none}
-use Prim.Native.Nat.{ℕ, zero, suc, _+_, _%_, _≤_, _<_}
+use Prim.Native.Nat.{ℕ, zero, suc, _+_, _%_, _<_}
 use native.Mathlib.Omega.{arith}
 use native.Mathlib.Nat.{le-of-suc-le-suc, not-suc-le-zero, mod-lt}
-use native.Mathlib.Numerals.{add-one}
 use lib.ListN.{length, take, replicate, length-append, length-replicate}
-use lib.Dec.{T, lit<, leb→le, eqb, ltb, leb, eqb→eq, eqb-refl, eqb·zero-suc, eqb·suc-zero, eqb·suc-suc}
+use lib.Dec.{T, lit<, leb→le, eqb, leb, eqb→eq}
 use Rattle.language.specs.Syntax.{pick, opt, nth, put, Name, same, listed, Kind, k-word, k-arr, Param, Arr, Fn, Prog}
-use Rattle.language.specs.Meaning.{Is, is-word, is-arr, is-table, is-fn, Top, on-some, or-else, resolve, Cells, all-words, all-arrays, Value, word, array, Bind, State, getB, setB, get-var, with-vars, with-words, with-arrays, as-word, as-arr, bind-params, bind-vars, bind-arrs, new-arrs, enter, back}
-use Rattle.language.specs.Checks.{same-k, kind-is, in-params, in-arrs, kind-of, is-kind, sizes}
+use Rattle.language.specs.Meaning.{on-some, or-else, Cells, all-words, all-arrays, Value, word, array, Bind, State, getB, setB, with-vars, with-words, with-arrays, bind-params, bind-vars, bind-arrs, new-arrs, enter, back}
+use Rattle.language.specs.Checks.{same-k, in-params, in-arrs, is-kind, sizes}
 use Rattle.language.specs.Words.{all}
+use Rattle.language.specs.Laws.{Each}
 
 -- tests
 pub is-true : {b : Bool} → b ≡ true → T b
@@ -31,19 +32,10 @@ pub same-eq : (x y : Name) → T (same x y) → x ≡ y
 same-eq [] [] h = refl
 same-eq [] (b ∷ y) h = absurd h
 same-eq (a ∷ x) [] h = absurd h
-same-eq (a ∷ x) (b ∷ y) h = let e : a ≡ b = eqb→eq a b (both (eqb a b) (same x y) h .0) in let d : x ≡ y = same-eq x y (both (eqb a b) (same x y) h .1) in cc
-
-pub eqb-sym : (a b : ℕ) → eqb a b ≡ eqb b a
-eqb-sym zero zero = refl
-eqb-sym zero (suc b) = eqb·zero-suc b ∙ sym (eqb·suc-zero b)
-eqb-sym (suc a) zero = eqb·suc-zero a ∙ sym (eqb·zero-suc a)
-eqb-sym (suc a) (suc b) = eqb·suc-suc a b ∙ (eqb-sym a b ∙ sym (eqb·suc-suc b a))
-
-pub same-sym : (x y : Name) → same x y ≡ same y x
-same-sym [] [] = refl
-same-sym [] (b ∷ y) = refl
-same-sym (a ∷ x) [] = refl
-same-sym (a ∷ x) (b ∷ y) = ap₂ (λ u v. u && v) (eqb-sym a b) (same-sym x y)
+same-eq (a ∷ x) (b ∷ y) h =
+    let e : a ≡ b = eqb→eq a b (both (eqb a b) (same x y) h .0) in
+    let d : x ≡ y = same-eq x y (both (eqb a b) (same x y) h .1) in
+    cc
 
 pub same-kind : (j k : Kind) → T (same-k j k) → j ≡ k
 same-kind k-word k-word h = refl
@@ -94,10 +86,6 @@ unfoldable pub shape : List Cells → List Shape
 shape [] = []
 shape (c ∷ cs) = record { wide = c .wide; size = length (c .cells) } ∷ shape cs
 
-abbrev pub Each : {A : Type 0} → (A → Type 0) → List A → Type 0
-Each P [] = Unit {0}
-Each P (x ∷ xs) = P x × Each P xs
-
 module _ {A : Type 0} (P : A → Type 0) where
   pub each-++ : (xs ys : List A) → Each P xs → Each P ys → Each P (xs ++ ys)
   each-++ [] ys h g = g
@@ -122,6 +110,10 @@ module _ {A : Type 0} (P : A → Type 0) where
   each-replicate zero x h = tt
   each-replicate (suc n) x h = (h, each-replicate n x h)
 
+pub each-map : {A : Type 0} {P Q : A → Type 0} → ((x : A) → P x → Q x) → (xs : List A) → Each P xs → Each Q xs
+each-map f [] h = tt
+each-map f (x ∷ xs) h = (f x (h .0), each-map f xs (h .1))
+
 -- words are below 2^32, where all that is read is (the flag says so); bytes always are
 abbrev pub Small : Bool → ℕ → Type 0
 Small true n = n < all
@@ -137,6 +129,18 @@ Cell q false n = n < 256
 
 abbrev pub CellsOk : Bool → Cells → Type 0
 CellsOk q k = Each (Cell q (k .wide)) (k .cells)
+
+abbrev pub Value-small : Bool → Value → Type 0
+Value-small q (word n) = Small q n
+Value-small q (array a) = Unit {0}
+
+-- all words of a state
+pub record All-small (q : Bool) (s : State) : Type 0 where
+  pub words : Each (Small q) (s .words)
+  pub cells : Each (CellsOk q) (s .arrays)
+  pub vars : Each (λ b. Value-small q (b .val)) (s .vars)
+  pub ins : Each (Small q) (s .ins)
+  pub outs : Each (Small q) (s .outs)
 
 pub record Room : Type 0 where
   pub strict : Bool
@@ -175,9 +179,7 @@ pub record Good (p : Prog) (c : Ctx) (s : State) : Type 0 where
   pub vars-are : (x : Name) → Fitting (c .sh) (getB (s .vars) x) («local» (c .fn) x)
   pub base : (a : ℕ) (z : Shape) → nth (shape (all-arrays p)) a ≡ some z → nth (c .sh .shapes) a ≡ some z
   pub sizes-are : Each (λ z. z .size < all) (c .sh .shapes)
-  pub small-words : Each (Small (c .sh .strict)) (s .words)
-  pub small-cells : Each (CellsOk (c .sh .strict)) (s .arrays)
-  pub small-ins : Each (Small (c .sh .strict)) (s .ins)
+  pub smalls : All-small (c .sh .strict) s
 
 -- looking a name up
 pub or-cases : {A : Type 0} {x : A} (a b : Option A) → or-else a b ≡ some x → (a ≡ some x) ⊎ (b ≡ some x)
@@ -202,7 +204,9 @@ fitting-or sh (some v) b (some j) k h g = h
 abbrev pub Finds : Room → Option Value → Kind → Type 0
 Finds sh o k = (v : Value) × (o ≡ some v) × Has sh v k
 
-pub finds-or : (sh : Room) (a : Option Value) (j : Option Kind) (b : Option Value) (l : Option Kind) (k : Kind) → Fitting sh a j → (l ≡ some k → Finds sh b k) → or-else j l ≡ some k → Finds sh (or-else a b) k
+pub finds-or :
+    (sh : Room) (a : Option Value) (j : Option Kind) (b : Option Value) (l : Option Kind) (k : Kind) → Fitting sh a j → (l ≡ some k → Finds sh b k) →
+    or-else j l ≡ some k → Finds sh (or-else a b) k
 finds-or sh none none b l k h g e = g e
 finds-or sh none (some j) b l k h g e = absurd h
 finds-or sh (some v) none b l k h g e = absurd h
@@ -222,27 +226,34 @@ getB-++ [] b x = refl
 getB-++ (c ∷ a) b x = pick2 (λ u v. u ≡ or-else v (getB b x)) (same (c .name) x) refl (getB-++ a b x)
 
 -- what a call binds
-pub fit-params : (sh : Room) (qs : List Param) (vs : List Value) (x : Name) → HasAll sh vs qs → Fitting sh (getB (bind-params qs vs) x) (in-params qs x)
+pub fit-params :
+    (sh : Room) (qs : List Param) (vs : List Value) (x : Name) → HasAll sh vs qs → Fitting sh (getB (bind-params qs vs) x) (in-params qs x)
 fit-params sh [] [] x h = tt
 fit-params sh [] (v ∷ vs) x h = absurd h
 fit-params sh (q ∷ qs) [] x h = absurd h
 fit-params sh (q ∷ qs) (v ∷ vs) x h = pick2 (Fitting sh) (same (q .name) x) (h .0) (fit-params sh qs vs x (h .1))
 
-var-or : (sh : Room) (t l : Bool) (o : Option Value) → Fitting sh o (pick l (some k-word) none) → Fitting sh (pick t (some (word 0)) o) (pick (t || l) (some k-word) none)
+var-or :
+    (sh : Room) (t l : Bool) (o : Option Value) → Fitting sh o (pick l (some k-word) none) →
+    Fitting sh (pick t (some (word 0)) o) (pick (t || l) (some k-word) none)
 var-or sh true l o h = small (sh .strict) 0 (lit< tt)
 var-or sh false l o h = h
 
 pub fit-vars : (sh : Room) (xs : List Name) (x : Name) → Fitting sh (getB (bind-vars xs) x) (pick (listed x xs) (some k-word) none)
 fit-vars sh [] x = tt
-fit-vars sh (y ∷ xs) x = rw (same-sym y x) (var-or sh (same x y) (listed x xs) (getB (bind-vars xs) x) (fit-vars sh xs x))
+fit-vars sh (y ∷ xs) x = var-or sh (same y x) (listed x xs) (getB (bind-vars xs) x) (fit-vars sh xs x)
 
 pub snoc-length : {A : Type 0} (pre : List A) (w : A) (n : ℕ) → length pre ≡ n → length (pre ++ (w ∷ [])) ≡ n + 1
 snoc-length pre w n e = length-append pre (w ∷ []) ∙ ap (λ k. k + 1) e
 
-pub fit-arrs : (sh : Room) (as₁ : List Arr) (n : ℕ) (pre : List Shape) (x : Name) → sh .shapes ≡ pre ++ shape (new-arrs as₁) → length pre ≡ n → Fitting sh (getB (bind-arrs as₁ n) x) (in-arrs as₁ x)
+pub fit-arrs :
+    (sh : Room) (as₁ : List Arr) (n : ℕ) (pre : List Shape) (x : Name) → sh .shapes ≡ pre ++ shape (new-arrs as₁) → length pre ≡ n →
+    Fitting sh (getB (bind-arrs as₁ n) x) (in-arrs as₁ x)
 unfolding shape
 fit-arrs sh [] n pre x e l = tt
-fit-arrs sh (a ∷ as₁) n pre x e l = let z : Shape = record { wide = a .wide; size = length (replicate (a .size) 0) } in pick2 (Fitting sh) (same (a .name) x) (length (replicate (a .size) 0), ap₂ nth e (sym l) ∙ nth-at pre (shape (new-arrs as₁)) z) (fit-arrs sh as₁ (n + 1) (pre ++ (z ∷ [])) x (e ∙ sym (append-assoc pre (z ∷ []) (shape (new-arrs as₁)))) (snoc-length pre z n l))
+fit-arrs sh (a ∷ as₁) n pre x e l =
+    let z : Shape = record { wide = a .wide; size = length (replicate (a .size) 0) } in
+    pick2 (Fitting sh) (same (a .name) x) (length (replicate (a .size) 0), ap₂ nth e (sym l) ∙ nth-at pre (shape (new-arrs as₁)) z) (fit-arrs sh as₁ (n + 1) (pre ++ (z ∷ [])) x (e ∙ sym (append-assoc pre (z ∷ []) (shape (new-arrs as₁)))) (snoc-length pre z n l))
 
 pub shape-++ : (a b : List Cells) → shape (a ++ b) ≡ shape a ++ shape b
 unfolding shape
@@ -293,36 +304,101 @@ new-cells q (a ∷ as₁) = (each-replicate (Cell q (a .wide)) (a .size) 0 (zero
 new-sizes : (as₁ : List Arr) → T (sizes 4096 as₁) → Each (λ z. z .size < all) (shape (new-arrs as₁))
 unfolding shape
 new-sizes [] t = tt
-new-sizes (a ∷ as₁) t = let d = both (leb (a .size) 4096) (sizes 4096 as₁) (both (leb 1 (a .size)) (leb (a .size) 4096 && sizes 4096 as₁) t .1) in let l = leb→le (a .size) 4096 (d .0) in (omega (arith, length-replicate {A = ℕ} (a .size) 0), new-sizes as₁ (d .1))
+new-sizes (a ∷ as₁) t =
+    let d = both (leb (a .size) 4096) (sizes 4096 as₁) (both (leb 1 (a .size)) (leb (a .size) 4096 && sizes 4096 as₁) t .1) in
+    let l = leb→le (a .size) 4096 (d .0) in
+    (omega (arith, length-replicate {A = ℕ} (a .size) 0), new-sizes as₁ (d .1))
 
-pub good-enter : (p : Prog) (c : Ctx) (f : Name) (g : Fn) (vs : List Value) (s : State) → T (sizes 4096 (g .arrs)) → Good p c s → HasAll (c .sh) vs (g .params) → Good p (inside f g c) (enter g vs s)
-good-enter p c f g vs s t h a = record { words-are = h .words-are; arrays-are = shape-++ (s .arrays) (new-arrs (g .arrs)) ∙ ap (λ l. l ++ shape (new-arrs (g .arrs))) (h .arrays-are); vars-are = bound; base = λ i w e. nth-left (c .sh .shapes) (shape (new-arrs (g .arrs))) i w (h .base i w e); sizes-are = each-++ (λ z. z .size < all) (c .sh .shapes) (shape (new-arrs (g .arrs))) (h .sizes-are) (new-sizes (g .arrs) t); small-words = h .small-words; small-cells = each-++ (CellsOk (c .sh .strict)) (s .arrays) (new-arrs (g .arrs)) (h .small-cells) (new-cells (c .sh .strict) (g .arrs)); small-ins = h .small-ins }
+value-small : (sh : Room) (v : Value) (k : Kind) → Has sh v k → Value-small (sh .strict) v
+value-small sh (word n) k-word h = h
+value-small sh (word n) (k-arr w) h = absurd h
+value-small sh (array a) k h = tt
+
+params-small : (sh : Room) (qs : List Param) (vs : List Value) → HasAll sh vs qs → Each (λ b. Value-small (sh .strict) (b .val)) (bind-params qs vs)
+params-small sh [] [] h = tt
+params-small sh [] (v ∷ vs) h = absurd h
+params-small sh (q ∷ qs) [] h = absurd h
+params-small sh (q ∷ qs) (v ∷ vs) h = (value-small sh v (q .kind) (h .0), params-small sh qs vs (h .1))
+
+vars-small : (q : Bool) (xs : List Name) → Each (λ b. Value-small q (b .val)) (bind-vars xs)
+vars-small q [] = tt
+vars-small q (x ∷ xs) = (small q 0 (lit< tt), vars-small q xs)
+
+arrs-small : (q : Bool) (as₁ : List Arr) (n : ℕ) → Each (λ b. Value-small q (b .val)) (bind-arrs as₁ n)
+arrs-small q [] n = tt
+arrs-small q (a ∷ as₁) n = (tt, arrs-small q as₁ (n + 1))
+
+enter-small :
+    (sh : Room) (g : Fn) (vs : List Value) (s : State) → All-small (sh .strict) s → HasAll sh vs (g .params) → All-small (sh .strict) (enter g vs s)
+enter-small sh g vs s h a = record {
+  words = h .words;
+  cells = each-++ (CellsOk (sh .strict)) (s .arrays) (new-arrs (g .arrs)) (h .cells) (new-cells (sh .strict) (g .arrs));
+  vars = each-++ P (bind-params (g .params) vs) (bind-vars (g .vars) ++ bind-arrs (g .arrs) (length (s .arrays))) (params-small sh (g .params) vs a) (each-++ P (bind-vars (g .vars)) (bind-arrs (g .arrs) (length (s .arrays))) (vars-small (sh .strict) (g .vars)) (arrs-small (sh .strict) (g .arrs) (length (s .arrays))));
+  ins = h .ins;
+  outs = h .outs;
+}
+  where
+    P : Bind → Type 0
+    P b = Value-small (sh .strict) (b .val)
+
+pub good-enter :
+    (p : Prog) (c : Ctx) (f : Name) (g : Fn) (vs : List Value) (s : State) → T (sizes 4096 (g .arrs)) → Good p c s → HasAll (c .sh) vs (g .params) →
+    Good p (inside f g c) (enter g vs s)
+good-enter p c f g vs s t h a = record {
+  words-are = h .words-are;
+  arrays-are = shape-++ (s .arrays) (new-arrs (g .arrs)) ∙ ap (λ l. l ++ shape (new-arrs (g .arrs))) (h .arrays-are);
+  vars-are = bound;
+  base = λ i w e. nth-left (c .sh .shapes) (shape (new-arrs (g .arrs))) i w (h .base i w e);
+  sizes-are = each-++ (λ z. z .size < all) (c .sh .shapes) (shape (new-arrs (g .arrs))) (h .sizes-are) (new-sizes (g .arrs) t);
+  smalls = enter-small (c .sh) g vs s (h .smalls) a;
+}
   where
     sh′ : Room
     sh′ = more (c .sh) (shape (new-arrs (g .arrs)))
 
-    bound : (x : Name) → Fitting sh′ (getB (bind-params (g .params) vs ++ (bind-vars (g .vars) ++ bind-arrs (g .arrs) (length (s .arrays)))) x) («local» g x)
+    bound :
+        (x : Name) →
+        Fitting sh′ (getB (bind-params (g .params) vs ++ (bind-vars (g .vars) ++ bind-arrs (g .arrs) (length (s .arrays)))) x) («local» g x)
     bound x = rw (getB-++ (bind-params (g .params) vs) (bind-vars (g .vars) ++ bind-arrs (g .arrs) (length (s .arrays))) x, getB-++ (bind-vars (g .vars)) (bind-arrs (g .arrs) (length (s .arrays))) x)
         (fitting-or sh′ (getB (bind-params (g .params) vs) x) _ (in-params (g .params) x) _ (fit-params sh′ (g .params) vs x (has-all-more (c .sh) (shape (new-arrs (g .arrs))) vs (g .params) a))
         (fitting-or sh′ (getB (bind-vars (g .vars)) x) _ (pick (listed x (g .vars)) (some k-word) none) _ (fit-vars sh′ (g .vars) x)
         (fit-arrs sh′ (g .arrs) (length (s .arrays)) (c .sh .shapes) x refl (ap length (sym (h .arrays-are)) ∙ shape-length (s .arrays)))))
 
 pub good-back : (p : Prog) (c : Ctx) (f : Name) (g : Fn) (s t : State) → Good p c s → Good p (inside f g c) t → Good p c (back s t)
-good-back p c f g s t h k = record { words-are = k .words-are; arrays-are = shape-take (length (s .arrays)) (t .arrays) ∙ (ap₂ take (sym (shape-length (s .arrays)) ∙ ap length (h .arrays-are)) (k .arrays-are) ∙ take-front (c .sh .shapes) (shape (new-arrs (g .arrs)))); vars-are = h .vars-are; base = h .base; sizes-are = h .sizes-are; small-words = k .small-words; small-cells = each-take (CellsOk (c .sh .strict)) (length (s .arrays)) (t .arrays) (k .small-cells); small-ins = k .small-ins }
+good-back p c f g s t h k = record {
+  words-are = k .words-are;
+  arrays-are = shape-take (length (s .arrays)) (t .arrays) ∙ (ap₂ take (sym (shape-length (s .arrays)) ∙ ap length (h .arrays-are)) (k .arrays-are) ∙ take-front (c .sh .shapes) (shape (new-arrs (g .arrs))));
+  vars-are = h .vars-are;
+  base = h .base;
+  sizes-are = h .sizes-are;
+  smalls = record {
+    words = k .smalls .words;
+    cells = each-take (CellsOk (c .sh .strict)) (length (s .arrays)) (t .arrays) (k .smalls .cells);
+    vars = h .smalls .vars;
+    ins = k .smalls .ins;
+    outs = k .smalls .outs;
+  };
+}
 
 -- a name is set
 abbrev SetCase : List Bind → List Bind → Name → Value → Name → Type 0
 SetCase cs bs x v y = (getB cs y ≡ getB bs y) ⊎ ((x ≡ y) × (getB cs y ≡ some v))
 
-set-here : (b : Bind) (bs : List Bind) (x : Name) (v : Value) (y : Name) → b .name ≡ x → (q : Bool) → same x y ≡ q → SetCase (record { name = x; val = v } ∷ bs) (b ∷ bs) x v y
+set-here :
+    (b : Bind) (bs : List Bind) (x : Name) (v : Value) (y : Name) → b .name ≡ x → (q : Bool) → same x y ≡ q →
+    SetCase (record { name = x; val = v } ∷ bs) (b ∷ bs) x v y
 set-here b bs x v y d true e = inr (same-eq x y (is-true e), ap (λ t. pick t (some v) (getB bs y)) e)
 set-here b bs x v y d false e = inl (ap (λ t. pick t (some v) (getB bs y)) e ∙ sym (ap (λ t. pick t (some (b .val)) (getB bs y)) (ap (λ z. same z y) d ∙ e)))
 
-set-there : (b : Bind) (bs : List Bind) (x : Name) (v : Value) (y : Name) (q : Bool) → SetCase (setB bs x v) bs x v y → (pick q (some (b .val)) (getB (setB bs x v) y) ≡ pick q (some (b .val)) (getB bs y)) ⊎ ((x ≡ y) × (pick q (some (b .val)) (getB (setB bs x v) y) ≡ some v))
+set-there :
+    (b : Bind) (bs : List Bind) (x : Name) (v : Value) (y : Name) (q : Bool) → SetCase (setB bs x v) bs x v y →
+    (pick q (some (b .val)) (getB (setB bs x v) y) ≡ pick q (some (b .val)) (getB bs y)) ⊎ ((x ≡ y) × (pick q (some (b .val)) (getB (setB bs x v) y) ≡ some v))
 set-there b bs x v y true ih = inl refl
 set-there b bs x v y false ih = ih
 
-set-at : (b : Bind) (bs : List Bind) (x : Name) (v : Value) (y : Name) (q : Bool) → same (b .name) x ≡ q → SetCase (setB bs x v) bs x v y → SetCase (pick q (record { name = x; val = v } ∷ bs) (b ∷ setB bs x v)) (b ∷ bs) x v y
+set-at :
+    (b : Bind) (bs : List Bind) (x : Name) (v : Value) (y : Name) (q : Bool) → same (b .name) x ≡ q → SetCase (setB bs x v) bs x v y →
+    SetCase (pick q (record { name = x; val = v } ∷ bs) (b ∷ setB bs x v)) (b ∷ bs) x v y
 set-at b bs x v y true e ih = set-here b bs x v y (same-eq (b .name) x (is-true e)) (same x y) refl
 set-at b bs x v y false e ih = set-there b bs x v y (same (b .name) y) ih
 
@@ -330,13 +406,49 @@ pub getB-setB : (bs : List Bind) (x : Name) (v : Value) (y : Name) → (getB (se
 getB-setB [] x v y = inl refl
 getB-setB (b ∷ bs) x v y = set-at b bs x v y (same (b .name) x) refl (getB-setB bs x v y)
 
-pub good-set : (p : Prog) (c : Ctx) (s : State) (x : Name) (n : ℕ) → Good p c s → Small (c .sh .strict) n → «local» (c .fn) x ≡ some k-word → Good p c (with-vars s (setB (s .vars) x (word n)))
-good-set p c s x n h w e = record { words-are = h .words-are; arrays-are = h .arrays-are; base = h .base; vars-are = λ y. ⊎-elim (λ d. rw d (h .vars-are y)) (λ d. rw (d .1) (rw (ap («local» (c .fn)) (sym (d .0)) ∙ e) w)) (getB-setB (s .vars) x (word n) y); sizes-are = h .sizes-are; small-words = h .small-words; small-cells = h .small-cells; small-ins = h .small-ins }
+set-small :
+    (q : Bool) (bs : List Bind) (x : Name) (n : ℕ) → Each (λ b. Value-small q (b .val)) bs → Small q n →
+    Each (λ b. Value-small q (b .val)) (setB bs x (word n))
+set-small q [] x n h w = tt
+set-small q (b ∷ bs) x n h w = pick1 (Each (λ b. Value-small q (b .val))) (same (b .name) x) (w, h .1) (h .0, set-small q bs x n (h .1) w)
+
+pub good-set :
+    (p : Prog) (c : Ctx) (s : State) (x : Name) (n : ℕ) → Good p c s → Small (c .sh .strict) n → «local» (c .fn) x ≡ some k-word →
+    Good p c (with-vars s (setB (s .vars) x (word n)))
+good-set p c s x n h w e = record {
+  words-are = h .words-are;
+  arrays-are = h .arrays-are;
+  base = h .base;
+  vars-are = λ y. ⊎-elim (λ d. rw d (h .vars-are y)) (λ d. rw (d .1) (rw (ap («local» (c .fn)) (sym (d .0)) ∙ e) w)) (getB-setB (s .vars) x (word n) y);
+  sizes-are = h .sizes-are;
+  smalls = record {
+    words = h .smalls .words;
+    cells = h .smalls .cells;
+    vars = set-small (c .sh .strict) (s .vars) x n (h .smalls .vars) w;
+    ins = h .smalls .ins;
+    outs = h .smalls .outs;
+  };
+}
 
 pub good-words : (p : Prog) (c : Ctx) (s : State) (i n : ℕ) → Good p c s → Small (c .sh .strict) n → Good p c (with-words s (put (s .words) i n))
-good-words p c s i n h w = record { words-are = length-put (s .words) i n ∙ h .words-are; arrays-are = h .arrays-are; base = h .base; vars-are = h .vars-are; sizes-are = h .sizes-are; small-words = each-put (Small (c .sh .strict)) (s .words) i n (h .small-words) w; small-cells = h .small-cells; small-ins = h .small-ins }
+good-words p c s i n h w = record {
+  words-are = length-put (s .words) i n ∙ h .words-are;
+  arrays-are = h .arrays-are;
+  base = h .base;
+  vars-are = h .vars-are;
+  sizes-are = h .sizes-are;
+  smalls = record {
+    words = each-put (Small (c .sh .strict)) (s .words) i n (h .smalls .words) w;
+    cells = h .smalls .cells;
+    vars = h .smalls .vars;
+    ins = h .smalls .ins;
+    outs = h .smalls .outs;
+  };
+}
 
-pub shape-put : (cs : List Cells) (a : ℕ) (c d : Cells) → nth cs a ≡ some c → d .wide ≡ c .wide → length (d .cells) ≡ length (c .cells) → shape (put cs a d) ≡ shape cs
+pub shape-put :
+    (cs : List Cells) (a : ℕ) (c d : Cells) → nth cs a ≡ some c → d .wide ≡ c .wide → length (d .cells) ≡ length (c .cells) →
+    shape (put cs a d) ≡ shape cs
 unfolding shape
 shape-put [] a c d e w l = refl
 shape-put (b ∷ cs) zero c d e w l = ap₂ (λ u v. record { wide = u; size = v } ∷ shape cs) (w ∙ ap (λ z. z .wide) (sym (some-is e))) (l ∙ ap (λ z. length (z .cells)) (sym (some-is e)))
@@ -349,19 +461,27 @@ put-cell q false n h = mod-lt n (lit< tt)
 abbrev pub stored : Cells → ℕ → ℕ → Cells
 stored k i n = record { wide = k .wide; cells = put (k .cells) i (pick (k .wide) n (n % 256)) }
 
-pub good-put : (p : Prog) (c : Ctx) (s : State) (a i n : ℕ) (k : Cells) → nth (s .arrays) a ≡ some k → Small (c .sh .strict) n → Good p c s → Good p c (with-arrays s (put (s .arrays) a (stored k i n)))
+pub good-put :
+    (p : Prog) (c : Ctx) (s : State) (a i n : ℕ) (k : Cells) → nth (s .arrays) a ≡ some k → Small (c .sh .strict) n → Good p c s →
+    Good p c (with-arrays s (put (s .arrays) a (stored k i n)))
 good-put p c s a i n k e w h = record {
   words-are = h .words-are;
   arrays-are = shape-put (s .arrays) a k (stored k i n) e refl (length-put (k .cells) i _) ∙ h .arrays-are;
   base = h .base;
   vars-are = h .vars-are;
   sizes-are = h .sizes-are;
-  small-words = h .small-words;
-  small-ins = h .small-ins;
-  small-cells = each-put (CellsOk (c .sh .strict)) (s .arrays) a (stored k i n) (h .small-cells) (each-put (Cell (c .sh .strict) (k .wide)) (k .cells) i _ (each-nth (CellsOk (c .sh .strict)) (s .arrays) a k (h .small-cells) e) (put-cell (c .sh .strict) (k .wide) n w));
+  smalls = record {
+    words = h .smalls .words;
+    cells = each-put (CellsOk (c .sh .strict)) (s .arrays) a (stored k i n) (h .smalls .cells) (each-put (Cell (c .sh .strict) (k .wide)) (k .cells) i _ (each-nth (CellsOk (c .sh .strict)) (s .arrays) a k (h .smalls .cells) e) (put-cell (c .sh .strict) (k .wide) n w));
+    vars = h .smalls .vars;
+    ins = h .smalls .ins;
+    outs = h .smalls .outs;
+  };
 }
 
-pub shape-nth : (cs : List Cells) (a : ℕ) (z : Shape) → nth (shape cs) a ≡ some z → (k : Cells) × (nth cs a ≡ some k) × (z ≡ record { wide = k .wide; size = length (k .cells) })
+pub shape-nth :
+    (cs : List Cells) (a : ℕ) (z : Shape) → nth (shape cs) a ≡ some z →
+    (k : Cells) × (nth cs a ≡ some k) × (z ≡ record { wide = k .wide; size = length (k .cells) })
 unfolding shape
 shape-nth [] a w e = absurd-some e
 shape-nth (c ∷ cs) zero w e = (c, refl, sym (some-is e))

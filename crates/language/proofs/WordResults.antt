@@ -1,14 +1,12 @@
--- What is calculated from words is a word.
-use mathlib.Core.Path.{_≡_, refl, sym, _∙_, ap, subst}
+-- What operators give is a word where their operands are: below 2^32. For Safe.
 use mathlib.Core.Bool.{Bool, true, false, _&&_, _||_, not}
 use Prim.Native.Nat.{ℕ, zero, suc, _+_, _-_, _*_, _/_, _%_, _^_, _≤_, _<_}
 use native.Mathlib.Omega.{arith}
 use native.Mathlib.Nat.{mod-lt, mod-le, div-le-self, pow-suc}
-use lib.Dec.{T, eqb, ltb, leb, lit<, lit≤}
-use Rattle.language.specs.Syntax.{pick}
-use Rattle.language.specs.Words.{all, bit, odd, bits, xor1, andW, orW, xorW, add, sub, mul, shl, shr}
+use lib.Dec.{eqb, ltb, leb, lit<, lit≤}
+use Rattle.language.specs.Words.{all, bit, odd, bits, xor1}
 use Rattle.language.specs.Meaning.{binary, single}
-use Rattle.language.proofs.Typed.{pick1, Small}
+use Rattle.language.proofs.WellTyped.{pick1, Small}
 
 bit-le : (b : Bool) → bit b ≤ 1
 bit-le true = lit≤ tt
@@ -37,7 +35,9 @@ binary-lt o x y h g =
 
 pub single-lt : (o x : ℕ) → x < all → single o x < all
 unfolding single
-single-lt o x h = let P : ℕ → Type 0 = λ n. n < all in pick1 P (eqb o 0) (low ((0 + all) - x)) (pick1 P (eqb o 1) (bit-lt (eqb x 0)) (low ((4294967295 + all) - x)))
+single-lt o x h =
+    let P : ℕ → Type 0 = λ n. n < all in
+    pick1 P (eqb o 0) (low ((0 + all) - x)) (pick1 P (eqb o 1) (bit-lt (eqb x 0)) (low ((4294967295 + all) - x)))
 
 pub binary-small : (q : Bool) (o x y : ℕ) → Small q x → Small q y → Small q (binary o x y)
 binary-small true o x y h g = binary-lt o x y h g

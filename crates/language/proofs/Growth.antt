@@ -1,18 +1,17 @@
--- Following the meaning further changes nothing that was found (C), and what was put out stays: one pass for both.
+-- What is put out and the list of calls only grow; and a run that is followed further finds the same, or goes on from where it was spent.
+-- One relation between the results with less and with more depth serves both, with one lemma for each combinator of the meaning.
 use mathlib.Core.Path.{_≡_, refl, sym, _∙_, ap, subst}
-use mathlib.Core.Bool.{Bool, true, false, _&&_, _||_, not}
+use mathlib.Core.Bool.{Bool, true, false}
 use mathlib.Core.List.{List, [], _∷_, _++_, append-assoc, append-nil}
 use mathlib.Core.Option.{Option, some, none}
-use Prim.Native.Nat.{ℕ, zero, suc, _+_, _*_, _/_, _%_, _≤_}
-use lib.ListN.{length, take, replicate}
-use lib.Dec.{eqb, ltb, leb}
-use native.Mathlib.Omega.{arith as lin}
+use Prim.Native.Nat.{ℕ, zero, suc, _≤_}
+use lib.Dec.{eqb}
 use native.Mathlib.Nat.{le-of-suc-le-suc, not-suc-le-zero}
 use Rattle.language.specs.Observe.{Front, none-yet, and-so, state-of, outs-of, Is-spent, is-spent}
-use Rattle.language.proofs.Typed.{absurd-some, some-is}
+use Rattle.language.proofs.WellTyped.{absurd-some, some-is}
 use Rattle.language.specs.Laws.{Never-wrong, Further, Grown, Only-grows}
-use Rattle.language.specs.Syntax.{pick, opt, nth, put, Name, same, listed, Expr, num, var, bin, un, and1, or1, idx, len, call, by-table, input, Exprs, no, and-then, Stmt, set1, store1, ex1, out1, if1, while1, ret1, break1, next1, Block, end, seq1, Kind, k-word, k-arr, Param, Arr, Fn, Item, i-fn, File, Prog}
-use Rattle.language.specs.Meaning.{Value, word, array, Mark, State, Result, val, vals, fine, broke, goes-on, gives, trap, spent, wrong, on-val, on-vals, on-fine, on-round, on-end, back, with-word, num-of, div0, arith, either, get-var, get-arr, resolve, as-fn, as-table, as-word, on-some, getB, Task, t-e, t-es, t-s, t-b, t-call, Go, reads, reads-from, writes, cell-at, cell-put, calls, evals, lists, assigns, does, runs, task, run, enter, begin, means, first-file, w-main}
+use Rattle.language.specs.Syntax.{pick, opt, nth, Name, Expr, num, var, bin, un, and1, or1, idx, len, call, by-table, input, Exprs, no, and-then, Stmt, set1, store1, ex1, out1, if1, while1, ret1, break1, next1, Block, end, seq1, Fn, Prog}
+use Rattle.language.specs.Meaning.{Value, Mark, State, Result, val, vals, fine, broke, goes-on, gives, trap, spent, wrong, on-val, on-vals, on-fine, on-round, on-end, back, num-of, div0, arith, either, get-var, get-arr, resolve, as-fn, as-table, as-word, on-some, getB, Task, t-e, t-es, t-s, t-b, t-call, Go, reads, reads-from, writes, cell-at, cell-put, calls, evals, lists, assigns, does, runs, task, run, enter, begin, first-file, w-main}
 
 -- what was put out, and the calls so far, only grow
 pub record Ext (s t : State) : Type 0 where
@@ -58,7 +57,12 @@ pub ext-refl : (s : State) → Ext s s
 ext-refl s = record { o = []; outs-is = sym (append-nil (s .outs)); c = []; calls-is = sym (append-nil (s .calls)) }
 
 pub ext-trans : {s t u : State} → Ext s t → Ext t u → Ext s u
-ext-trans {s} {t} {u} a b = record { o = a .o ++ b .o; outs-is = b .outs-is ∙ (ap (λ x. x ++ b .o) (a .outs-is) ∙ append-assoc (s .outs) (a .o) (b .o)); c = a .c ++ b .c; calls-is = b .calls-is ∙ (ap (λ x. x ++ b .c) (a .calls-is) ∙ append-assoc (s .calls) (a .c) (b .c)) }
+ext-trans {s} {t} {u} a b = record {
+  o = a .o ++ b .o;
+  outs-is = b .outs-is ∙ (ap (λ x. x ++ b .o) (a .outs-is) ∙ append-assoc (s .outs) (a .o) (b .o));
+  c = a .c ++ b .c;
+  calls-is = b .calls-is ∙ (ap (λ x. x ++ b .c) (a .calls-is) ∙ append-assoc (s .calls) (a .c) (b .c));
+}
 
 pub here : (s : State) → Kept s s
 here s = record { ext = ext-refl s; held-is = refl }
@@ -206,11 +210,15 @@ module _ {f f′ : State → Result} (k : (t : State) → Step t (f t) (f′ t))
   st-round (stays {r = r} g) = round-same r g
   st-round (more {t = t} {r = r} e a g) = more e (round-after t r a) (right (round-same r g))
 
-pub st-opt : {A : Type 0} {s : State} {c c′ : Result} {f f′ : A → Result} (o : Option A) → Step s c c′ → ((x : A) → Step s (f x) (f′ x)) → Step s (opt o c f) (opt o c′ f′)
+pub st-opt :
+    {A : Type 0} {s : State} {c c′ : Result} {f f′ : A → Result} (o : Option A) → Step s c c′ → ((x : A) → Step s (f x) (f′ x)) →
+    Step s (opt o c f) (opt o c′ f′)
 st-opt none h k = h
 st-opt (some x) h k = k x
 
-pub st-either : {s : State} {f f′ g g′ : State → Result} (b : Bool) → ((t : State) → Step t (f t) (f′ t)) → ((t : State) → Step t (g t) (g′ t)) → Step s (either b f g s) (either b f′ g′ s)
+pub st-either :
+    {s : State} {f f′ g g′ : State → Result} (b : Bool) → ((t : State) → Step t (f t) (f′ t)) → ((t : State) → Step t (g t) (g′ t)) →
+    Step s (either b f g s) (either b f′ g′ s)
 st-either {s} true h k = h s
 st-either {s} false h k = k s
 
@@ -256,15 +264,14 @@ pub ext-enter : (g : Fn) (vs : List Value) (s : State) → Ext s (enter g vs s)
 ext-enter g vs s = record { o = []; outs-is = sym (append-nil (s .outs)); c = _; calls-is = refl }
 
 -- what needs no deeper look
-pub same-word : {s : State} {f : ℕ → Result} (v : Value) → ((n : ℕ) → Step s (f n) (f n)) → Step s (with-word v f) (with-word v f)
-same-word (word n) k = k n
-same-word (array a) k = stays tt
-
 pub same-arith : (o x y : ℕ) (s : State) → Step s (arith o x y s) (arith o x y s)
 same-arith o x y s = st-pick (div0 o y) (stays (ext-refl s)) (stays (here s))
 
 pub quiet : {s t : State} → t .outs ≡ s .outs → t .calls ≡ s .calls → t .held ≡ s .held → Kept s t
-quiet {s} {t} a b c = record { ext = record { o = []; outs-is = a ∙ sym (append-nil (s .outs)); c = []; calls-is = b ∙ sym (append-nil (s .calls)) }; held-is = c }
+quiet {s} {t} a b c = record {
+  ext = record { o = []; outs-is = a ∙ sym (append-nil (s .outs)); c = []; calls-is = b ∙ sym (append-nil (s .calls)) };
+  held-is = c;
+}
 
 pub same-reads : (s : State) → Step s (reads s) (reads s)
 same-reads s = go (s .ins)
@@ -328,7 +335,7 @@ module _ {go go′ : Go} (p : Prog) (h : (f : Name) (t : Task) (s : State) → S
   task-ahead f (t-b b) s = b-ahead f b s
   task-ahead f (t-call g vs) s = st-end (ext-enter g vs s) (h f (t-b (g .body)) (enter g vs s))
 
--- B's growth, for every program
+-- every run grows
 pub run-same : (p : Prog) (n : ℕ) (f : Name) (t : Task) (s : State) → Step s (run p n f t s) (run p n f t s)
 run-same p zero f t s = stays (ext-refl s)
 run-same p (suc n) f t s = task-ahead p (run-same p n) f t s
@@ -336,14 +343,14 @@ run-same p (suc n) f t s = task-ahead p (run-same p n) f t s
 pub run-grows : (p : Prog) (n : ℕ) (f : Name) (t : Task) (s : State) → Grows s (run p n f t s)
 run-grows p n f t s = right (run-same p n f t s)
 
--- C, for every program
+-- more depth, of every program
 pub run-ahead : (p : Prog) (m n : ℕ) → m ≤ n → (f : Name) (t : Task) (s : State) → Step s (run p m f t s) (run p n f t s)
 run-ahead p zero n l f t s = more (ext-refl s) (later (run p n f t s) (ext-refl s) (run-grows p n f t s)) (run-grows p n f t s)
 run-ahead p (suc m) zero l f t s = absurd (not-suc-le-zero l)
 run-ahead p (suc m) (suc n) l f t s = task-ahead p (run-ahead p m n (le-of-suc-le-suc l)) f t s
 
--- as it is asked for
-pub front-app : (a b : List ℕ) → Front a (a ++ b)
+-- as the laws say it
+pub front-app : {A : Type 0} (a b : List A) → Front a (a ++ b)
 front-app [] b = none-yet
 front-app (x ∷ a) b = and-so (front-app a b)
 
@@ -375,30 +382,9 @@ step-found w (more {t = t} {r = r} e a g) = (λ i. after-front t r w a, λ i. ab
 pub never-further : Never-wrong → Further
 never-further b p ins m n d h = step-found (b p ins n d) (run-ahead p m n h (first-file p) (t-e (call w-main no)) (begin p ins))
 
--- the same, said of tasks
-pub run-further : (p : Prog) (m j : ℕ) (f : Name) (t : Task) (s : State) → (Is-spent (run p m f t s) → ⊥) → run p (m + j) f t s ≡ run p m f t s
-run-further p m j f t s i = unspent (run-ahead p m (m + j) (omega lin) f t s) i
-  where
-    unspent : {r r′ : Result} → Step s r r′ → (Is-spent r → ⊥) → r′ ≡ r
-    unspent (stays g) i = refl
-    unspent (more e a g) i = absurd (i is-spent)
-
-pub run-front : (p : Prog) (m j : ℕ) (f : Name) (t : Task) (s : State) → (run p (m + j) f t s ≡ wrong → ⊥) → Is-spent (run p m f t s) → Front (outs-of (run p m f t s)) (outs-of (run p (m + j) f t s))
-run-front p m j f t s w i = step-found w (run-ahead p m (m + j) (omega lin) f t s) .0 i
-
-pub val-kept : (p : Prog) (n : ℕ) (f : Name) (t : Task) (s s′ : State) (v : Value) → run p n f t s ≡ val v s′ → Kept s s′
-val-kept p n f t s s′ v e = subst (Grows s) e (run-grows p n f t s)
-
-pub fine-kept : (p : Prog) (n : ℕ) (f : Name) (t : Task) (s s′ : State) → run p n f t s ≡ fine s′ → Kept s s′
-fine-kept p n f t s s′ e = subst (Grows s) e (run-grows p n f t s)
-
 -- what was put out and the calls so far, of the state of any result
-marks-app : (a b : List Mark) → Front a (a ++ b)
-marks-app [] b = none-yet
-marks-app (x ∷ a) b = and-so (marks-app a b)
-
 grown : {s t : State} → Ext s t → Grown s t
-grown {s} {t} e = record { outs = ext-front e; calls = rw (e .calls-is) (marks-app (s .calls) (e .c)) }
+grown {s} {t} e = record { outs = ext-front e; calls = rw (e .calls-is) (front-app (s .calls) (e .c)) }
 
 state-grown : (s t : State) (r : Result) → Grows s r → state-of r ≡ some t → Grown s t
 state-grown s t (val v u) g e = subst (Grown s) (some-is e) (grown (g .ext))
