@@ -1,16 +1,16 @@
--- In a program each call has at most 8 arguments.
-use mathlib.Core.Path.{_≡_, refl, sym, _∙_, ap, subst}
-use mathlib.Core.Bool.{Bool, true, false, _&&_, _||_, not}
+-- In a program that the checks accept each call has at most 8 arguments, and what the checks ask of each function holds of all.
+-- Rests on Checks; the bounds on depth and on frames need it.
+use mathlib.Core.Bool.{Bool, true, false, _&&_}
 use mathlib.Core.List.{List, [], _∷_, _++_}
 use mathlib.Core.Option.{Option, some, none}
-use Prim.Native.Nat.{ℕ, zero, suc, _+_, _≤_, _<_}
+use Prim.Native.Nat.{ℕ, _+_, _≤_}
 use native.Mathlib.Omega.{arith}
 use lib.ListN.{length}
 use lib.Dec.{leb, T, leb→le}
-use Rattle.language.specs.Syntax.{pick, opt, Name, same, listed, Expr, num, var, bin, un, and1, or1, idx, len, call, by-table, input, Exprs, no, and-then, Stmt, set1, store1, ex1, out1, if1, while1, ret1, break1, next1, Block, end, seq1, Kind, k-word, k-arr, Param, Arr, Fn, Item, i-word, i-arr, i-data, i-table, i-fn, i-use, File, Prog}
-use Rattle.language.specs.Meaning.{Is, is-word, is-arr, is-table, is-fn, Top, tops, words-in, arrays-in, used-in, items-of, resolve, top-of, all-tops, as-fn, as-table, or-else, on-some}
-use Rattle.language.specs.Checks.{fits-arg, first-k, rest-k, no-more, fn-named, is-local, params-of, head-fn, params-table, okE, okEs, okS, okB, okFn, okI, okIs, okFs, ok, names-arr, sizes, once, param-names, arr-names, file-names, has-main, totals}
-use Rattle.grammar.specs.Bounds.{OfItem, FnsI, AllFns, count, FewE, FewEs, FewS, FewB}
+use Rattle.language.specs.Syntax.{pick, opt, Name, same, Expr, num, var, bin, un, and1, or1, idx, len, call, by-table, input, Exprs, no, and-then, Stmt, set1, store1, ex1, out1, if1, while1, ret1, break1, next1, Block, end, seq1, Kind, k-word, k-arr, Param, Fn, Item, i-word, i-arr, i-data, i-table, i-fn, i-use, Prog}
+use Rattle.language.specs.Meaning.{Is, is-word, is-arr, is-table, is-fn, Top, tops, used-in, items-of, resolve, top-of, all-tops, as-fn, as-table, or-else, on-some}
+use Rattle.language.specs.Checks.{fits-arg, first-k, rest-k, fn-named, is-local, params-of, head-fn, params-table, okE, okEs, okS, okB, okFn, okI, okIs, okFs, ok, names-arr, sizes, once, param-names, arr-names, file-names, has-main, totals}
+use Rattle.grammar.specs.Bounds.{FnsI, AllFns, count, FewE, FewEs, FewS, FewB}
 
 -- a test of two parts
 pub both-T : (a b : Bool) → T (a && b) → T a × T b

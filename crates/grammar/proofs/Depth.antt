@@ -1,18 +1,17 @@
--- How many places code for a function of a program uses: at most 593.
-use mathlib.Core.Path.{_≡_, refl, sym, _∙_, ap, subst}
-use mathlib.Core.Bool.{Bool, true, false, _&&_}
-use mathlib.Core.List.{List, [], _∷_, _++_}
-use Prim.Native.Nat.{ℕ, zero, suc, _+_, _-_, _*_, _≤_, _<_, max}
+-- No function of a text's program has more than 593 values that wait at once: each of the 39 brackets within a body adds at most 15.
+-- Rests on BracketsShut and Arity.
+use mathlib.Core.Path.{_≡_, refl}
+use mathlib.Core.List.{List, _∷_, _++_}
+use Prim.Native.Nat.{ℕ, _+_, _-_, _*_, _≤_, max}
 use native.Mathlib.Omega.{arith}
 use lib.ListN.{length}
-use lib.Dec.{leb, T, leb→le}
+use lib.Dec.{leb, T}
 use Rattle.language.specs.Syntax.{Name, Expr, Exprs, Stmt, Block, Fn, Item, Prog}
-use Rattle.grammar.specs.Text
-use Rattle.grammar.specs.Text.{t-lp, t-rp, t-lb, t-rb, t-lc, t-rc, Between, plus, minus, times, over, rest, is, isnt, less, most, more, least, both, any, odd1, left, right, Ex, looser, or-e, and-e, two-e, one-e, num-e, var-e, brackets-e, index-e, len-e, call-e, table-e, in-e, Exs, none-es, one-es, more-es, St1, set-s, store-s, ex-s, out-s, if-s, ifelse-s, while-s, return-s, break-s, continue-s, Sts, end-s, more-s, It, word-i, wide-i, byte-i, data-i, text-i, table-i, use-i, fn-i, Its, no-items, more-items, Files, no-files, more-files, flat, calm, pieces, gap, Reads}
+use Rattle.grammar.specs.Text.{Between, plus, minus, times, over, rest, is, isnt, less, most, more, least, both, any, exclusive, left, right, IsExpr, looser, or-e, and-e, two-e, one-e, num-e, var-e, brackets-e, index-e, len-e, call-e, table-e, in-e, AreArgs, none-es, one-es, more-es, IsStmt, set-s, store-s, ex-s, out-s, if-s, ifelse-s, while-s, return-s, break-s, continue-s, IsBlock, end-s, more-s, IsItem, word-i, wide-i, byte-i, data-i, text-i, table-i, use-i, fn-i, AreItems, no-items, more-items, AreFiles, no-files, more-files, flat, calm, pieces, gap, Reads}
 use Rattle.grammar.specs.Bounds.{OfItem, FnsI, AllFns, count, deepE, deepEs, deepS, deepB, FewE, FewEs, FewS, FewB}
-use Rattle.grammar.proofs.Look.{and-0, and-1}
+use Rattle.grammar.proofs.PieceKinds.{and-0, and-1}
 use Rattle.grammar.proofs.Arity.{few}
-use Rattle.grammar.proofs.Even.{after1, level, cut, next, plain-name, plain-between, plain-before, shut, even-E, even-Es, even-S, even-B, even-pars, even-vars, even-arrs, even-I, even-Is}
+use Rattle.grammar.proofs.BracketsShut.{after1, level, cut, next, plain-name, plain-between, plain-before, shut, even-E, even-Es, even-S, even-B, even-pars, even-vars, even-arrs, even-I, even-Is}
 
 -- from n open brackets on, never more than 40
 pub record Low (n : ℕ) (s : List Name) : Type 0 where
@@ -38,13 +37,13 @@ tight more = omega arith
 tight least = omega arith
 tight both = omega arith
 tight any = omega arith
-tight odd1 = omega arith
+tight exclusive = omega arith
 tight left = omega arith
 tight right = omega arith
 
 -- each bracket that is still to come adds at most 15, and each of the six kinds of operators one
 mutual
-  deep-E : {k : ℕ} {s : List Name} {e : Expr} → Ex k s e → FewE e → (n : ℕ) → Low n s → deepE e ≤ 15 * (40 - n) + 1 + (8 - max k 2)
+  deep-E : {k : ℕ} {s : List Name} {e : Expr} → IsExpr k s e → FewE e → (n : ℕ) → Low n s → deepE e ≤ 15 * (40 - n) + 1 + (8 - max k 2)
   deep-E (looser h x) f n l = let i = deep-E x f n l in omega arith
   deep-E (or-e {s} x y) f n l = let c = low-cut s _ (even-E x) l in let d = low-next n refl (c .1) in let i = deep-E x (f .0) n (c .0) in let j = deep-E y (f .1) n (d .1) in omega arith
   deep-E (and-e {s} x y) f n l = let c = low-cut s _ (even-E x) l in let d = low-next n refl (c .1) in let i = deep-E x (f .0) n (c .0) in let j = deep-E y (f .1) n (d .1) in omega arith
@@ -64,13 +63,13 @@ mutual
       let i = deep-E y (f .0) (n + 1) (c .0) in let j = deep-Es z (f .2) (n + 1) (g .0) in let v = f .1 in omega arith
   deep-E in-e f n l = omega arith
 
-  deep-Es : {s : List Name} {es : Exprs} → Exs s es → FewEs es → (n : ℕ) → Low n s → deepEs es ≤ count es + (15 * (40 - n) + 6)
+  deep-Es : {s : List Name} {es : Exprs} → AreArgs s es → FewEs es → (n : ℕ) → Low n s → deepEs es ≤ count es + (15 * (40 - n) + 6)
   deep-Es none-es f n l = omega arith
   deep-Es (one-es x) f n l = let i = deep-E x (f .0) n l in omega arith
   deep-Es (more-es {s} x y) f n l = let c = low-cut s _ (even-E x) l in let d = low-next n refl (c .1) in let i = deep-E x (f .0) n (c .0) in let j = deep-Es y (f .1) n (d .1) in omega arith
 
 mutual
-  deep-S : {s : List Name} {a : Stmt} → St1 s a → FewS a → (n : ℕ) → Low n s → deepS a ≤ 15 * (40 - n) + 8
+  deep-S : {s : List Name} {a : Stmt} → IsStmt s a → FewS a → (n : ℕ) → Low n s → deepS a ≤ 15 * (40 - n) + 8
   deep-S (set-s {x} {s} h y) f n l = let c = low-cut s _ (even-E y) (low-next n refl (low-next n (plain-name x h n) l .1) .1) in let i = deep-E y f n (c .0) in omega arith
   deep-S (store-s {x} {s} {t} h y z) f n l =
       let c = low-cut s _ (even-E y) (low-next (n + 1) refl (low-next n (plain-name x h n) l .1) .1) in
@@ -96,7 +95,7 @@ mutual
   deep-S break-s f n l = omega arith
   deep-S continue-s f n l = omega arith
 
-  deep-B : {s : List Name} {b : Block} → Sts s b → FewB b → (n : ℕ) → Low n s → deepB b ≤ 15 * (40 - n) + 8
+  deep-B : {s : List Name} {b : Block} → IsBlock s b → FewB b → (n : ℕ) → Low n s → deepB b ≤ 15 * (40 - n) + 8
   deep-B end-s f n l = omega arith
   deep-B (more-s {s} x y) f n l = let c = low-cut s _ (even-S x) l in let i = deep-S x (f .0) n (c .0) in let j = deep-B y (f .1) n (c .1) in omega arith
 
@@ -106,7 +105,7 @@ Few-fn g = FewB (g .body)
 abbrev Deep-fn : Fn → Type 0
 Deep-fn g = deepB (g .body) ≤ 593
 
-deep-I : {s : List Name} {i : Item} → It s i → OfItem Few-fn i → Low 0 s → OfItem Deep-fn i
+deep-I : {s : List Name} {i : Item} → IsItem s i → OfItem Few-fn i → Low 0 s → OfItem Deep-fn i
 deep-I (word-i h) f l = tt
 deep-I (wide-i h k) f l = tt
 deep-I (byte-i h k) f l = tt
@@ -120,11 +119,11 @@ deep-I (fn-i {x} {s} {t} {u} {v} h a b c d) f l =
     let l3 = low-cut u _ (even-arrs c) (low-cut t _ (even-vars b) l2 .1) .1 in
     deep-B d f 1 (low-cut v _ (even-B d) l3 .0)
 
-deep-Is : {s : List Name} {is : List Item} → Its s is → FnsI Few-fn is → Low 0 s → FnsI Deep-fn is
+deep-Is : {s : List Name} {is : List Item} → AreItems s is → FnsI Few-fn is → Low 0 s → FnsI Deep-fn is
 deep-Is no-items f l = tt
 deep-Is (more-items {s} x y) f l = let c = low-cut s _ (even-I x) l in (deep-I x (f .0) (c .0), deep-Is y (f .1) (c .1))
 
-deep-Fs : {s : List Name} {p : Prog} → Files s p → AllFns p Few-fn → Low 0 s → AllFns p Deep-fn
+deep-Fs : {s : List Name} {p : Prog} → AreFiles s p → AllFns p Few-fn → Low 0 s → AllFns p Deep-fn
 deep-Fs no-files f l = tt
 deep-Fs (more-files {x} {s} h y z) f l =
     let c = low-cut s _ (even-Is y) (low-next 0 refl (low-next 0 (plain-name x h 0) (low-next 0 refl l .1) .1) .1) in

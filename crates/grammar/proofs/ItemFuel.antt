@@ -1,35 +1,35 @@
--- The steps of parameters, arrays, items and files call themselves on fewer pieces.
-use mathlib.Core.Path.{_≡_, refl, sym, _∙_, ap}
-use mathlib.Core.Bool.{Bool, true, false, not, _&&_}
+-- The steps of parameters, arrays, items and files call themselves on fewer pieces, so that they have equations by Unrolling.
+use mathlib.Core.Path.{_≡_, refl, _∙_, ap}
+use mathlib.Core.Bool.{Bool, true, false, _&&_}
 use mathlib.Core.List.{List, [], _∷_}
 use mathlib.Core.Option.{Option, some, none}
-use Prim.Native.Nat.{ℕ, zero, suc, _≤_, _<_, suc-le-suc}
+use Prim.Native.Nat.{ℕ, suc-le-suc}
 use native.Mathlib.Omega.{arith}
 use native.Mathlib.Nat.{le-refl}
 use lib.ListN.{length}
-use lib.Dec.{leb, T}
-use Rattle.language.specs.Syntax.{pick, opt, Name, same, Kind, k-word, k-arr, Param, Arr, Fn, Item, i-word, i-arr, i-data, i-table, i-fn, i-use, File, Prog}
-use Rattle.grammar.specs.Text.{k-file, k-var, k-array, k-bytes, t-lp, t-rp, t-lb, t-rb, t-lc, t-comma, t-semi, t-colon, t-gets, okName, Number, digitsV}
-use Rattle.grammar.specs.Parse.{Res, fail, got, bind, eat, eatName, numOf}
-use Rattle.grammar.specs.ParseAll.{again, bodyStep, body, namesTo, eatNum, numsTo, parIn, parKind, par, parsMore, parsStep, parsOf, varsOf, size, arr, arrsAs, arrsStep, Head, h-var, h-array, h-bytes, h-table, h-use, h-fn, h-none, headOf, inQuotes, textTo, arrayIt, bytesIt, fnIt, itBy, item, itemsStep, filesStep}
-use Rattle.grammar.proofs.Look.{digits-of}
-use Rattle.grammar.proofs.Sound.{Post, none-p, got-p, post-bind, post-pick, post-eat, post-eatName}
-use Rattle.grammar.proofs.Fuel.{Fewer, NoMore, weaken, bind-same, bind-agree, pick-agree, eat-agree, eatName-agree}
-use Rattle.grammar.proofs.Again.{Less, SameBelow, Well, again-l}
+use lib.Dec.{leb}
+use Rattle.language.specs.Syntax.{pick, opt, Name, same, Param, Arr, Item, Prog}
+use Rattle.grammar.specs.Text.{k-file, k-var, k-array, k-bytes, t-lp, t-rp, t-lb, t-rb, t-lc, t-comma, t-semi, t-colon, t-gets, is-name, IsNumber}
+use Rattle.grammar.specs.Parse.{Res, fail, got, bind, numOf}
+use Rattle.grammar.specs.ParseAll.{bodyStep, namesTo, eatNum, numsTo, parIn, parKind, par, parsMore, parsStep, parsOf, varsOf, size, arr, arrsAs, arrsStep, Head, h-var, h-array, h-bytes, h-table, h-use, h-fn, h-none, headOf, inQuotes, textTo, arrayIt, bytesIt, fnIt, itBy, item, itemsStep, filesStep}
+use Rattle.grammar.proofs.PieceKinds.{digits-of}
+use Rattle.grammar.proofs.ExprSound.{Post, none-p, got-p, post-bind, post-pick, post-eat, post-eatName}
+use Rattle.grammar.proofs.ExprFuel.{Fewer, NoMore, weaken, bind-same, pick-agree, eat-agree, eatName-agree}
+use Rattle.grammar.proofs.Unrolling.{Less, SameBelow, Well, again-l}
 use Rattle.grammar.proofs.StmtFuel.{body-well}
 
 pub post-opt : {A C : Type 0} {Q : C → List Name → Type 0} (o : Option A) (k : A → Res C) → ((a : A) → o ≡ some a → Post Q (k a)) → Post Q (opt o fail k)
 post-opt none k f = none-p
 post-opt (some a) k f = f a refl
 
-pub num-of : (w : Name) (n : ℕ) → numOf w ≡ some n → Number w n
+pub num-of : (w : Name) (n : ℕ) → numOf w ≡ some n → IsNumber w n
 num-of w n h = digits-of (leb 1 (length w) && leb (length w) 10) w n h
 
-pub post-eatNum : {C : Type 0} {Q : C → List Name → Type 0} (s : List Name) (k : ℕ → List Name → Res C) → ((w : Name) (n : ℕ) (r : List Name) → s ≡ w ∷ r → Number w n → Post Q (k n r)) → Post Q (eatNum s k)
+pub post-eatNum : {C : Type 0} {Q : C → List Name → Type 0} (s : List Name) (k : ℕ → List Name → Res C) → ((w : Name) (n : ℕ) (r : List Name) → s ≡ w ∷ r → IsNumber w n → Post Q (k n r)) → Post Q (eatNum s k)
 post-eatNum [] k f = none-p
 post-eatNum (w ∷ r) k f = post-opt (numOf w) _ (λ n e. f w n r refl (num-of w n e))
 
-pub post-size : {C : Type 0} {Q : C → List Name → Type 0} (s : List Name) (k : ℕ → List Name → Res C) → ((w : Name) (n : ℕ) (r : List Name) → s ≡ t-lb ∷ w ∷ t-rb ∷ t-semi ∷ r → Number w n → Post Q (k n r)) → Post Q (size s k)
+pub post-size : {C : Type 0} {Q : C → List Name → Type 0} (s : List Name) (k : ℕ → List Name → Res C) → ((w : Name) (n : ℕ) (r : List Name) → s ≡ t-lb ∷ w ∷ t-rb ∷ t-semi ∷ r → IsNumber w n → Post Q (k n r)) → Post Q (size s k)
 post-size s k f =
     post-eat t-lb s _ (λ s₂ q₁. post-eatNum s₂ _ (λ w n s₃ q₂ h. post-eat t-rb s₃ _ (λ s₄ q₃. post-eat t-semi s₄ _ (λ r q₄. f w n r (rw (q₁, q₂, q₃, q₄)) h))))
 
@@ -37,7 +37,7 @@ namesTo-l : (s : List Name) → Post (Fewer s) (namesTo s)
 namesTo-l [] = none-p
 namesTo-l (x ∷ []) = none-p
 namesTo-l (x ∷ w ∷ s) =
-    post-pick (okName x)
+    post-pick (is-name x)
     (λ h. post-pick (same w t-comma) (λ y. post-bind _ (namesTo-l s) (λ xs r k. got-p (omega arith))) (λ y. post-pick (same w t-semi) (λ z. got-p (omega arith)) (λ z. none-p)))
     (λ h. none-p)
 

@@ -1,18 +1,17 @@
--- A program's code takes at most m words for each byte of its text, if its costs are fair for m.
-use mathlib.Core.Path.{_≡_, refl, sym, _∙_, ap, subst}
-use mathlib.Core.Bool.{Bool, true, false, _&&_}
+-- Code takes at most m words for each byte of the text, if its costs are fair for m: by recursion on the grammar's relations.
+-- Rests on PieceBytes.
+use mathlib.Core.Path.{_≡_}
 use mathlib.Core.List.{List, [], _∷_, _++_}
-use Prim.Native.Nat.{ℕ, zero, suc, _+_, _-_, _*_, _^_, _≤_, _<_}
+use Prim.Native.Nat.{ℕ, _+_, _*_, _≤_}
 use native.Mathlib.Omega.{arith}
 use lib.ListN.{length}
 use lib.Dec.{leb, T, leb→le}
-use Rattle.language.specs.Syntax.{Name, Expr, Exprs, Stmt, Block, Param, Arr, Fn, Item, Prog}
-use Rattle.grammar.specs.Text
-use Rattle.grammar.specs.Text.{okName, Number, Between, plus, minus, times, over, rest, is, isnt, less, most, more, least, both, any, odd1, left, right, Before, minus1, not1, turned, Names, one-n, more-n, Nums, one-v, more-v, Ex, looser, or-e, and-e, two-e, one-e, num-e, var-e, brackets-e, index-e, len-e, call-e, table-e, in-e, Exs, none-es, one-es, more-es, St1, set-s, store-s, ex-s, out-s, if-s, ifelse-s, while-s, return-s, break-s, continue-s, Sts, end-s, more-s, Par, word-p, wide-p, byte-p, Pars, none-ps, one-ps, more-ps, Vars, no-vars, some-vars, Arrs, no-arrs, wide-a, byte-a, It, word-i, wide-i, byte-i, data-i, text-i, table-i, use-i, fn-i, Its, no-items, more-items, Files, no-files, more-files, flat, calm, pieces, gap, Reads}
-use Rattle.grammar.specs.Bounds.{Costs, Fair, each, wE, wEs, wS, wB, wFn, wI, wIs, words}
-use Rattle.grammar.proofs.Look.{and-0, and-1}
+use Rattle.language.specs.Syntax.{Name, Expr, Exprs, Stmt, Block, Param, Arr, Item, Prog}
+use Rattle.grammar.specs.Text.{is-name, IsNumber, Between, plus, minus, times, over, rest, is, isnt, less, most, more, least, both, any, exclusive, left, right, Before, minus-before, not-before, flip-before, AreNames, one-n, more-n, AreNumbers, one-v, more-v, IsExpr, looser, or-e, and-e, two-e, one-e, num-e, var-e, brackets-e, index-e, len-e, call-e, table-e, in-e, AreArgs, none-es, one-es, more-es, IsStmt, set-s, store-s, ex-s, out-s, if-s, ifelse-s, while-s, return-s, break-s, continue-s, IsBlock, end-s, more-s, IsParam, word-p, wide-p, byte-p, AreParams, none-ps, one-ps, more-ps, AreVars, no-vars, some-vars, AreArrays, no-arrs, wide-a, byte-a, IsItem, word-i, wide-i, byte-i, data-i, text-i, table-i, use-i, fn-i, AreItems, no-items, more-items, AreFiles, no-files, more-files, pieces, gap, Reads}
+use Rattle.grammar.specs.Bounds.{Costs, Fair, each, wE, wEs, wS, wB, wI, wIs, words}
+use Rattle.grammar.proofs.PieceKinds.{and-0}
 use native.Mathlib.Nat.{mul-add, mul-suc, mul-zero, mul-le-mul-left}
-use Rattle.grammar.proofs.Bytes.{bytes, pieces-bytes}
+use Rattle.grammar.proofs.PieceBytes.{bytes, pieces-bytes}
 
 -- m for each byte: a sum, so that `omega` sees no product of two unknowns
 abbrev pub paid : ℕ → List Name → ℕ
@@ -37,10 +36,10 @@ module _ (m : ℕ) where
   some-1 (x ∷ xs) h = omega arith
 
   -- a name, a number and an operator have a byte at least
-  name-1 : (x : Name) → T (okName x) → m ≤ each m x
+  name-1 : (x : Name) → T (is-name x) → m ≤ each m x
   name-1 x h = some-1 x (leb→le 1 (length x) (and-0 (leb 1 (length x)) _ h))
 
-  num-1 : (w : Name) (n : ℕ) → Number w n → m ≤ each m w
+  num-1 : (w : Name) (n : ℕ) → IsNumber w n → m ≤ each m w
   num-1 w n h = some-1 w (leb→le 1 (length w) (and-0 (leb 1 (length w)) _ (h .0)))
 
   between-1 : {l o : ℕ} {w : Name} → Between l w o → m ≤ each m w
@@ -57,20 +56,20 @@ module _ (m : ℕ) where
   between-1 least = omega arith
   between-1 both = omega arith
   between-1 any = omega arith
-  between-1 odd1 = omega arith
+  between-1 exclusive = omega arith
   between-1 left = omega arith
   between-1 right = omega arith
 
   before-1 : {o : ℕ} {w : Name} → Before w o → m ≤ each m w
-  before-1 minus1 = omega arith
-  before-1 not1 = omega arith
-  before-1 turned = omega arith
+  before-1 minus-before = omega arith
+  before-1 not-before = omega arith
+  before-1 flip-before = omega arith
 
-  each-names : (k : ℕ) {s xs : List Name} → k ≤ m → Names s xs → each k xs ≤ paid m s
+  each-names : (k : ℕ) {s xs : List Name} → k ≤ m → AreNames s xs → each k xs ≤ paid m s
   each-names k q (one-n {x} h) = let a = name-1 x h in omega arith
   each-names k q (more-n {x} h y) = let a = name-1 x h in let i = each-names k q y in omega arith
 
-  each-nums : (k : ℕ) {s : List Name} {ns : List ℕ} → k ≤ m → Nums s ns → each k ns ≤ paid m s
+  each-nums : (k : ℕ) {s : List Name} {ns : List ℕ} → k ≤ m → AreNumbers s ns → each k ns ≤ paid m s
   each-nums k q (one-v {w} {n} h) = let a = num-1 w n h in omega arith
   each-nums k q (more-v {w} {n} h y) = let a = num-1 w n h in let i = each-nums k q y in omega arith
 
@@ -78,21 +77,21 @@ module _ (m : ℕ) where
   each-len k [] q = omega arith
   each-len k (x ∷ xs) q = let i = each-len k xs q in omega arith
 
-  par-1 : {s : List Name} {q : Param} → Par s q → m ≤ paid m s
+  par-1 : {s : List Name} {q : Param} → IsParam s q → m ≤ paid m s
   par-1 (word-p {x} h) = let a = name-1 x h in omega arith
   par-1 (wide-p {x} h) = let a = name-1 x h in omega arith
   par-1 (byte-p {x} h) = let a = name-1 x h in omega arith
 
-  each-pars : (k : ℕ) {s : List Name} {qs : List Param} → k ≤ m → Pars s qs → each k qs ≤ paid m s
+  each-pars : (k : ℕ) {s : List Name} {qs : List Param} → k ≤ m → AreParams s qs → each k qs ≤ paid m s
   each-pars k q none-ps = omega arith
   each-pars k q (one-ps x) = let a = par-1 x in omega arith
   each-pars k q (more-ps {s} x y) = let a = par-1 x in let i = each-pars k q y in simp paid-++ (omega arith)
 
-  each-vars : (k : ℕ) {s xs : List Name} → k ≤ m → Vars s xs → each k xs ≤ paid m s
+  each-vars : (k : ℕ) {s xs : List Name} → k ≤ m → AreVars s xs → each k xs ≤ paid m s
   each-vars k q no-vars = omega arith
   each-vars k q (some-vars x) = let i = each-names k q x in simp paid-++ (omega arith)
 
-  each-arrs : (k : ℕ) {s : List Name} {as₁ : List Arr} → k ≤ 10 * m → Arrs s as₁ → each k as₁ ≤ paid m s
+  each-arrs : (k : ℕ) {s : List Name} {as₁ : List Arr} → k ≤ 10 * m → AreArrays s as₁ → each k as₁ ≤ paid m s
   each-arrs k q no-arrs = omega arith
   each-arrs k q (wide-a {x} {w} {n} h b y) = let a = name-1 x h in let d = num-1 w n b in let i = each-arrs k q y in omega arith
   each-arrs k q (byte-a {x} {w} {n} h b y) = let a = name-1 x h in let d = num-1 w n b in let i = each-arrs k q y in omega arith
@@ -100,7 +99,7 @@ module _ (m : ℕ) where
 module _ (m σ : ℕ) (c : Costs) (q : Fair m σ c) where
   -- an expression leaves σ words over, which pay for the operator before or behind it
   mutual
-    size-E : {k : ℕ} {s : List Name} {e : Expr} → Ex k s e → wE c e + σ ≤ paid m s
+    size-E : {k : ℕ} {s : List Name} {e : Expr} → IsExpr k s e → wE c e + σ ≤ paid m s
     size-E (looser h x) = size-E x
     size-E (or-e x y) = let i = size-E x in let j = size-E y in let f = q .f-or in simp (paid-++ m) (omega arith)
     size-E (and-e x y) = let i = size-E x in let j = size-E y in let f = q .f-and in simp (paid-++ m) (omega arith)
@@ -115,13 +114,13 @@ module _ (m σ : ℕ) (c : Costs) (q : Fair m σ c) where
     size-E (table-e {x} h y z) = let l = name-1 m x h in let i = size-E y in let j = size-Es z in let f = q .f-table in simp (paid-++ m) (omega arith)
     size-E in-e = let f = q .f-input in omega arith
 
-    size-Es : {s : List Name} {es : Exprs} → Exs s es → wEs c es ≤ paid m s + m
+    size-Es : {s : List Name} {es : Exprs} → AreArgs s es → wEs c es ≤ paid m s + m
     size-Es none-es = omega arith
     size-Es (one-es x) = let i = size-E x in let f = q .f-arg in omega arith
     size-Es (more-es x y) = let i = size-E x in let j = size-Es y in let f = q .f-arg in simp (paid-++ m) (omega arith)
 
   mutual
-    size-S : {s : List Name} {a : Stmt} → St1 s a → wS c a ≤ paid m s
+    size-S : {s : List Name} {a : Stmt} → IsStmt s a → wS c a ≤ paid m s
     size-S (set-s {x} h y) = let l = name-1 m x h in let i = size-E y in let f = q .f-set in simp (paid-++ m) (omega arith)
     size-S (store-s {x} h y z) = let l = name-1 m x h in let i = size-E y in let j = size-E z in let f = q .f-store in simp (paid-++ m) (omega arith)
     size-S (ex-s x) = let i = size-E x in let f = q .f-ex in simp (paid-++ m) (omega arith)
@@ -133,11 +132,11 @@ module _ (m σ : ℕ) (c : Costs) (q : Fair m σ c) where
     size-S break-s = let f = q .f-break in omega arith
     size-S continue-s = let f = q .f-next in omega arith
 
-    size-B : {s : List Name} {b : Block} → Sts s b → wB c b ≤ paid m s
+    size-B : {s : List Name} {b : Block} → IsBlock s b → wB c b ≤ paid m s
     size-B end-s = omega arith
     size-B (more-s x y) = let i = size-S x in let j = size-B y in simp (paid-++ m) (omega arith)
 
-  size-I : {s : List Name} {i : Item} → It s i → wI c i ≤ paid m s
+  size-I : {s : List Name} {i : Item} → IsItem s i → wI c i ≤ paid m s
   size-I (word-i {x} h) = let l = name-1 m x h in let f = q .f-word in omega arith
   size-I (wide-i {x} {w} {n} h b) = let l = name-1 m x h in let d = num-1 m w n b in let f = q .f-arr in omega arith
   size-I (byte-i {x} {w} {n} h b) = let l = name-1 m x h in let d = num-1 m w n b in let f = q .f-arr in omega arith
@@ -150,11 +149,11 @@ module _ (m σ : ℕ) (c : Costs) (q : Fair m σ c) where
       let k = each-arrs m (c .c-own) (q .f-own) d in let n = size-B e in let f = q .f-fn in
       simp (paid-++ m) (omega arith)
 
-  size-Is : {s : List Name} {is : List Item} → Its s is → wIs c is ≤ paid m s
+  size-Is : {s : List Name} {is : List Item} → AreItems s is → wIs c is ≤ paid m s
   size-Is no-items = omega arith
   size-Is (more-items x y) = let i = size-I x in let j = size-Is y in simp (paid-++ m) (omega arith)
 
-  size-Fs : {s : List Name} {p : Prog} → Files s p → words c p ≤ paid m s
+  size-Fs : {s : List Name} {p : Prog} → AreFiles s p → words c p ≤ paid m s
   size-Fs no-files = omega arith
   size-Fs (more-files {x} h y z) = let l = name-1 m x h in let i = size-Is y in let j = size-Fs z in let f = q .f-file in simp (paid-++ m) (omega arith)
 

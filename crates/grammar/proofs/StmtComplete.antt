@@ -1,19 +1,16 @@
--- Statements of the relation are read as those.
-use mathlib.Core.Path.{_≡_, refl, sym, _∙_, ap, subst}
-use mathlib.Core.Bool.{Bool, true, false, not}
+-- What are statements by the relation are read as those. Rests on ExprComplete and on the equation of bodies.
+use mathlib.Core.Path.{_≡_, refl, sym, _∙_, ap}
+use mathlib.Core.Bool.{Bool, true, false}
 use mathlib.Core.List.{List, [], _∷_, _++_, append-assoc}
-use mathlib.Core.Option.{none}
-use Prim.Native.Nat.{ℕ, zero, suc}
 use lib.Dec.{T}
 use Rattle.language.specs.Syntax.{pick, Name, same, Expr, var, idx, Stmt, set1, store1, ex1, out1, if1, while1, ret1, break1, next1, Block, end, seq1}
-use Rattle.grammar.specs.Text.{k-if, k-else, k-while, k-return, k-break, k-continue, k-out, t-lb, t-rb, t-lc, t-rc, t-semi, t-gets, okName, Ex, St1, set-s, store-s, ex-s, out-s, if-s, ifelse-s, while-s, return-s, break-s, continue-s, Sts, end-s, more-s}
-use Rattle.grammar.specs.Parse.{Res, fail, got, bind, eat, climb, reader, look, opOf, after, a-none, Piece, p-name, p-other, name}
-use Rattle.grammar.specs.ParseAll.{again, expr, exSemi, Lead, l-out, l-if, l-while, l-return, l-break, l-next, l-name, l-other, leads, lead, storeOr, nameSt, block, elseOf, stBy, stmt, bodyStep, body}
-use Rattle.grammar.proofs.Look.{T-of, true-of, same-eq, look-name}
-use Rattle.grammar.proofs.Fuel.{reader-fixed}
-use Rattle.grammar.proofs.Complete.{Shuts, shuts-rb, shuts-ends, fail-got, chain-ends, inner, begins, complete}
-use Rattle.grammar.proofs.Again.{again-is}
-use Rattle.grammar.proofs.StmtFuel.{body-well}
+use Rattle.grammar.specs.Text.{k-if, k-else, k-while, k-return, k-break, k-continue, k-out, t-lb, t-rb, t-lc, t-rc, t-semi, t-gets, is-name, IsExpr, IsStmt, set-s, store-s, ex-s, out-s, if-s, ifelse-s, while-s, return-s, break-s, continue-s, IsBlock, end-s, more-s}
+use Rattle.grammar.specs.Parse.{Res, fail, got, bind, eat, reader, look, p-name, p-other, name}
+use Rattle.grammar.specs.ParseAll.{expr, exSemi, Lead, l-out, l-if, l-while, l-return, l-break, l-next, l-name, l-other, lead, storeOr, nameSt, block, elseOf, stBy, stmt, body}
+use Rattle.grammar.proofs.PieceKinds.{T-of, true-of, same-eq, look-name}
+use Rattle.grammar.proofs.ExprFuel.{reader-fixed}
+use Rattle.grammar.proofs.ExprComplete.{Shuts, shuts-rb, shuts-ends, fail-got, chain-ends, inner, begins, complete}
+use Rattle.grammar.proofs.Equations.{body-is}
 use Rattle.grammar.proofs.StmtSound.{LeadMeans, lead-means}
 
 pub shuts-semi : Shuts t-semi
@@ -28,13 +25,13 @@ shuts-gets : Shuts t-gets
 unfolding look
 shuts-gets = record { no-op = refl; no-after = refl }
 
-pub expr-c : {s : List Name} {e : Expr} (w : Name) (r : List Name) → Shuts w → Ex 0 s e → expr (s ++ (w ∷ r)) ≡ got e (w ∷ r)
+pub expr-c : {s : List Name} {e : Expr} (w : Name) (r : List Name) → Shuts w → IsExpr 0 s e → expr (s ++ (w ∷ r)) ≡ got e (w ∷ r)
 expr-c w r h x = inner reader reader-fixed w r h (complete reader reader-fixed x)
 
-semi-c : (c : Expr → Stmt) {s : List Name} {e : Expr} (r : List Name) → Ex 0 s e → exSemi c ((s ++ (t-semi ∷ [])) ++ r) ≡ got (c e) r
+semi-c : (c : Expr → Stmt) {s : List Name} {e : Expr} (r : List Name) → IsExpr 0 s e → exSemi c ((s ++ (t-semi ∷ [])) ++ r) ≡ got (c e) r
 semi-c c {s} r x = ap (exSemi c) (append-assoc s (t-semi ∷ []) r) ∙ ap (λ y. bind y (λ e r. eat t-semi r (λ r′. got (c e) r′))) (expr-c t-semi r shuts-semi x)
 
-lead-name : (x : Name) → T (okName x) → lead x ≡ l-name
+lead-name : (x : Name) → T (is-name x) → lead x ≡ l-name
 unfolding lead
 lead-name x h = rw (true-of _ h)
 
@@ -49,7 +46,7 @@ not-first : (k w : Name) (s : List Name) {a : Stmt} {r : List Name} → look k �
 not-first k w s e q h = fail-got (sym (other-fails k s e) ∙ ap (λ v. exSemi ex1 (v ∷ s)) (sym q) ∙ h)
 
 -- an expression that is a statement, though it begins with a name
-module _ (x : Name) (ok : T (okName x)) where
+module _ (x : Name) (ok : T (is-name x)) where
   one-x : (s : List Name) → exSemi ex1 (x ∷ s) ≡ bind (bind (name reader x s) (reader .chain 0)) Semi
   one-x s = ap (λ y. bind (bind y (reader .chain 0)) Semi) (begins reader reader-fixed x s p-name (look-name x ok))
 
@@ -129,9 +126,6 @@ not-plain : (k : Name) (s : List Name) {a : Stmt} {r : List Name} → Plain k �
 not-plain k [] p h = tt
 not-plain k (w ∷ s) p h = not-k k w s (p .lead-o) (p .look-o) h
 
-body-is : (s : List Name) → body s ≡ bodyStep body s
-body-is s = again-is bodyStep body-well s
-
 seq-c : (s : List Name) {a : Stmt} {b : Block} {r r′ : List Name} → stmt body s ≡ got a r → body r ≡ got b r′ → body s ≡ got (seq1 a b) r′
 unfolding look lead
 seq-c [] h k = absurd (fail-got h)
@@ -148,20 +142,20 @@ else-none : (e : Expr) (b : Block) (r : List Name) → NotElse r → elseOf body
 else-none e b [] q = refl
 else-none e b (w ∷ r) q = rw q
 
-named-st : (x : Name) (s : List Name) → T (okName x) → stmt body (x ∷ s) ≡ nameSt x s
+named-st : (x : Name) (s : List Name) → T (is-name x) → stmt body (x ∷ s) ≡ nameSt x s
 named-st x s h = ap (λ l. stBy body l x s) (lead-name x h)
 
-set-p : {x : Name} {s : List Name} {e : Expr} → T (okName x) → Ex 0 s e → ParsedS (x ∷ t-gets ∷ (s ++ (t-semi ∷ []))) (set1 x e)
+set-p : {x : Name} {s : List Name} {e : Expr} → T (is-name x) → IsExpr 0 s e → ParsedS (x ∷ t-gets ∷ (s ++ (t-semi ∷ []))) (set1 x e)
 set-p {x} h y = λ r q. named-st x _ h ∙ semi-c (set1 x) r y
 
-store-p : {x : Name} {s t : List Name} {i e : Expr} → T (okName x) → Ex 0 s i → Ex 0 t e → ParsedS (x ∷ t-lb ∷ (s ++ (t-rb ∷ t-gets ∷ (t ++ (t-semi ∷ []))))) (store1 x i e)
+store-p : {x : Name} {s t : List Name} {i e : Expr} → T (is-name x) → IsExpr 0 s i → IsExpr 0 t e → ParsedS (x ∷ t-lb ∷ (s ++ (t-rb ∷ t-gets ∷ (t ++ (t-semi ∷ []))))) (store1 x i e)
 store-p {x} {s} {t} {i} h y z = λ r q.
     named-st x _ h
     ∙ ap (λ v. bind (expr v) (λ i r. eat t-rb r (λ r₁. storeOr x i r₁))) (append-assoc s (t-rb ∷ t-gets ∷ (t ++ (t-semi ∷ []))) r)
     ∙ ap (λ v. bind v (λ i r. eat t-rb r (λ r₁. storeOr x i r₁))) (expr-c t-rb _ shuts-rb y)
     ∙ semi-c (store1 x i) r z
 
-if-p : {s t : List Name} {e : Expr} {b : Block} → Ex 0 s e → ParsedB t b → ParsedS (k-if ∷ (s ++ (t-lc ∷ (t ++ (t-rc ∷ []))))) (if1 e b end)
+if-p : {s t : List Name} {e : Expr} {b : Block} → IsExpr 0 s e → ParsedB t b → ParsedS (k-if ∷ (s ++ (t-lc ∷ (t ++ (t-rc ∷ []))))) (if1 e b end)
 unfolding lead
 if-p {s} {t} {e} {b} x p = λ r q.
     let n : (s ++ (t-lc ∷ (t ++ (t-rc ∷ [])))) ++ r ≡ s ++ (t-lc ∷ (t ++ (t-rc ∷ r))) = simp append-assoc in
@@ -170,7 +164,7 @@ if-p {s} {t} {e} {b} x p = λ r q.
     ∙ ap (λ y. bind y (λ b r₁. elseOf body e b r₁)) (p .reads r)
     ∙ else-none e b r q
 
-ifelse-p : {s t u : List Name} {e : Expr} {b c : Block} → Ex 0 s e → ParsedB t b → ParsedB u c → ParsedS (k-if ∷ (s ++ (t-lc ∷ (t ++ (t-rc ∷ k-else ∷ t-lc ∷ (u ++ (t-rc ∷ []))))))) (if1 e b c)
+ifelse-p : {s t u : List Name} {e : Expr} {b c : Block} → IsExpr 0 s e → ParsedB t b → ParsedB u c → ParsedS (k-if ∷ (s ++ (t-lc ∷ (t ++ (t-rc ∷ k-else ∷ t-lc ∷ (u ++ (t-rc ∷ []))))))) (if1 e b c)
 unfolding lead
 ifelse-p {s} {t} {u} {e} {b} x p g = λ r q.
     let n : (s ++ (t-lc ∷ (t ++ (t-rc ∷ k-else ∷ t-lc ∷ (u ++ (t-rc ∷ [])))))) ++ r ≡ s ++ (t-lc ∷ (t ++ (t-rc ∷ k-else ∷ t-lc ∷ (u ++ (t-rc ∷ r))))) = simp append-assoc in
@@ -179,7 +173,7 @@ ifelse-p {s} {t} {u} {e} {b} x p g = λ r q.
     ∙ ap (λ y. bind y (λ b r₁. elseOf body e b r₁)) (p .reads _)
     ∙ ap (λ y. bind y (λ c r. got (if1 e b c) r)) (g .reads r)
 
-while-p : {s t : List Name} {e : Expr} {b : Block} → Ex 0 s e → ParsedB t b → ParsedS (k-while ∷ (s ++ (t-lc ∷ (t ++ (t-rc ∷ []))))) (while1 e b)
+while-p : {s t : List Name} {e : Expr} {b : Block} → IsExpr 0 s e → ParsedB t b → ParsedS (k-while ∷ (s ++ (t-lc ∷ (t ++ (t-rc ∷ []))))) (while1 e b)
 unfolding lead
 while-p {s} {t} {e} {b} x p = λ r q.
     let n : (s ++ (t-lc ∷ (t ++ (t-rc ∷ [])))) ++ r ≡ s ++ (t-lc ∷ (t ++ (t-rc ∷ r))) = simp append-assoc in
@@ -206,19 +200,19 @@ nxt-p : ParsedS (k-continue ∷ t-semi ∷ []) next1
 unfolding lead
 nxt-p = λ r q. refl
 
-out-p : {s : List Name} {e : Expr} → Ex 0 s e → ParsedS (k-out ∷ (s ++ (t-semi ∷ []))) (out1 e)
+out-p : {s : List Name} {e : Expr} → IsExpr 0 s e → ParsedS (k-out ∷ (s ++ (t-semi ∷ []))) (out1 e)
 unfolding lead
 out-p x = λ r q. semi-c out1 r x
 
-ret-p : {s : List Name} {e : Expr} → Ex 0 s e → ParsedS (k-return ∷ (s ++ (t-semi ∷ []))) (ret1 e)
+ret-p : {s : List Name} {e : Expr} → IsExpr 0 s e → ParsedS (k-return ∷ (s ++ (t-semi ∷ []))) (ret1 e)
 unfolding lead
 ret-p x = λ r q. semi-c ret1 r x
 
-ex-p : {s : List Name} {e : Expr} → Ex 0 s e → ParsedS (s ++ (t-semi ∷ [])) (ex1 e)
+ex-p : {s : List Name} {e : Expr} → IsExpr 0 s e → ParsedS (s ++ (t-semi ∷ [])) (ex1 e)
 ex-p {s} x = λ r q. ex-c ((s ++ (t-semi ∷ [])) ++ r) (semi-c ex1 r x)
 
 mutual
-  pub st-complete : {s : List Name} {a : Stmt} → St1 s a → ParsedS s a
+  pub st-complete : {s : List Name} {a : Stmt} → IsStmt s a → ParsedS s a
   st-complete (set-s h x) = set-p h x
   st-complete (store-s h x y) = store-p h x y
   st-complete (ex-s x) = ex-p x
@@ -230,6 +224,6 @@ mutual
   st-complete break-s = brk-p
   st-complete continue-s = nxt-p
 
-  pub body-complete : {s : List Name} {b : Block} → Sts s b → ParsedB s b
+  pub body-complete : {s : List Name} {b : Block} → IsBlock s b → ParsedB s b
   body-complete end-s = end-p
   body-complete (more-s x y) = more-p _ _ (st-complete x) (body-complete y)

@@ -1,17 +1,16 @@
--- A body's step calls itself on fewer pieces.
-use mathlib.Core.Path.{_≡_, refl, sym, _∙_, ap}
+-- The step of bodies calls itself on fewer pieces, so that it has an equation by Unrolling.
+use mathlib.Core.Path.{_≡_, refl, ap}
 use mathlib.Core.List.{List, [], _∷_}
-use Prim.Native.Nat.{ℕ, zero, suc, _≤_, _<_, suc-le-suc}
 use native.Mathlib.Omega.{arith}
 use native.Mathlib.Nat.{le-refl}
 use lib.ListN.{length}
-use Rattle.language.specs.Syntax.{Name, same, Expr, idx, Stmt, set1, store1, ex1, out1, if1, while1, ret1, Block, end, seq1}
+use Rattle.language.specs.Syntax.{pick, Name, same, Expr, idx, Stmt, set1, store1, ex1, out1, if1, while1, ret1, Block, end, seq1}
 use Rattle.grammar.specs.Text.{t-lb, t-rb, t-lc, t-rc, t-semi, t-gets, k-else}
-use Rattle.grammar.specs.Parse.{Res, fail, got, bind, eat, reader}
-use Rattle.grammar.specs.ParseAll.{again, expr, exSemi, Lead, l-out, l-if, l-while, l-return, l-break, l-next, l-name, l-other, lead, storeOr, nameSt, block, elseOf, stBy, stmt, bodyStep, body}
-use Rattle.grammar.proofs.Sound.{Post, none-p, got-p, post-bind, post-pick, post-eat}
-use Rattle.grammar.proofs.Fuel.{Fewer, NoMore, weaken, climb-l, reader-l, bind-same, bind-agree, pick-agree, eat-agree}
-use Rattle.grammar.proofs.Again.{Less, SameBelow, Well}
+use Rattle.grammar.specs.Parse.{Res, got, bind, reader}
+use Rattle.grammar.specs.ParseAll.{expr, exSemi, Lead, l-out, l-if, l-while, l-return, l-break, l-next, l-name, l-other, lead, storeOr, nameSt, block, elseOf, stBy, stmt, bodyStep}
+use Rattle.grammar.proofs.ExprSound.{Post, none-p, got-p, post-bind, post-pick, post-eat}
+use Rattle.grammar.proofs.ExprFuel.{Fewer, NoMore, weaken, climb-l, reader-l, bind-same, bind-agree, pick-agree, eat-agree}
+use Rattle.grammar.proofs.Unrolling.{Less, SameBelow, Well}
 
 pub expr-l : (s : List Name) → Post (Fewer s) (expr s)
 expr-l s = climb-l reader reader-l 0 s
@@ -83,7 +82,7 @@ module _ (G H : List Name → Res Block) (L : Less G) where
   bodyStep-a : (s : List Name) → SameBelow G H s → bodyStep G s ≡ bodyStep H s
   bodyStep-a [] h = refl
   bodyStep-a (w ∷ s) h =
-      ap (λ x. Rattle.language.specs.Syntax.pick (same w t-rc) (got end s) x)
+      ap (λ x. pick (same w t-rc) (got end s) x)
       (bind-agree _ _ (stBy-a (lead w) w s h) (stmt-l G L (w ∷ s)) (λ a r k. ap (λ x. bind x (λ b r′. got (seq1 a b) r′)) (h r k)))
 
 pub body-well : Well bodyStep

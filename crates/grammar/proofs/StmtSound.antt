@@ -1,17 +1,17 @@
--- What the reader takes for statements are statements, of the relation.
-use mathlib.Core.Path.{_≡_, refl, sym, _∙_, ap, subst}
+-- What the parser takes for statements are statements by the relation. Rests on ExprSound.
+use mathlib.Core.Path.{_≡_, refl, sym, _∙_, ap}
 use mathlib.Core.List.{List, [], _∷_, _++_, append-assoc}
-use Prim.Native.Nat.{ℕ, zero, suc, _≤_, _<_, zero-le}
+use Prim.Native.Nat.{zero-le}
 use native.Mathlib.Nat.{le-refl}
 use lib.Dec.{T, lit<, lit≤}
-use Rattle.language.specs.Syntax.{Name, same, Expr, idx, Stmt, set1, store1, ex1, out1, if1, while1, ret1, Block, end, seq1}
-use Rattle.grammar.specs.Text.{k-if, k-else, k-while, k-return, k-break, k-continue, k-out, t-lb, t-rb, t-lc, t-rc, t-semi, t-gets, okName, Ex, looser, index-e, St1, set-s, store-s, ex-s, out-s, if-s, ifelse-s, while-s, return-s, break-s, continue-s, Sts, end-s, more-s}
-use Rattle.grammar.specs.Parse.{Res, fail, got, bind, eat, find, climb, reader}
-use Rattle.grammar.specs.ParseAll.{again, expr, exSemi, Lead, l-out, l-if, l-while, l-return, l-break, l-next, l-name, l-other, leads, lead, storeOr, nameSt, block, elseOf, stBy, stmt, bodyStep, body}
-use Rattle.grammar.proofs.Look.{same-eq, pick-means, find-means}
-use Rattle.grammar.proofs.Sound.{Post, none-p, got-p, post-bind, post-pick, post-eat, Ends, ends-8, Took, closed, climb-sound, reader-sound}
-use Rattle.grammar.proofs.Fuel.{weaken}
-use Rattle.grammar.proofs.Again.{again-by}
+use Rattle.language.specs.Syntax.{Name, same, Expr, idx, Stmt, set1, ex1, out1, ret1, Block}
+use Rattle.grammar.specs.Text.{k-if, k-else, k-while, k-return, k-break, k-continue, k-out, t-lb, t-rb, t-lc, t-rc, t-semi, t-gets, is-name, IsExpr, looser, index-e, IsStmt, set-s, store-s, ex-s, out-s, if-s, ifelse-s, while-s, return-s, break-s, continue-s, IsBlock, end-s, more-s}
+use Rattle.grammar.specs.Parse.{Res, find, reader}
+use Rattle.grammar.specs.ParseAll.{expr, exSemi, Lead, l-out, l-if, l-while, l-return, l-break, l-next, l-name, l-other, leads, lead, storeOr, nameSt, block, elseOf, stBy, bodyStep, body}
+use Rattle.grammar.proofs.PieceKinds.{same-eq, pick-means, find-means}
+use Rattle.grammar.proofs.ExprSound.{Post, none-p, got-p, post-bind, post-pick, post-eat, Ends, ends-8, Took, closed, climb-sound, reader-sound}
+use Rattle.grammar.proofs.ExprFuel.{weaken}
+use Rattle.grammar.proofs.Unrolling.{again-by}
 
 abbrev pub LeadMeans : Lead → Name → Type 0
 LeadMeans l-out w = w ≡ k-out
@@ -20,32 +20,32 @@ LeadMeans l-while w = w ≡ k-while
 LeadMeans l-return w = w ≡ k-return
 LeadMeans l-break w = w ≡ k-break
 LeadMeans l-next w = w ≡ k-continue
-LeadMeans l-name w = T (okName w)
+LeadMeans l-name w = T (is-name w)
 LeadMeans l-other w = Unit {0}
 
 pub lead-means : (w : Name) → LeadMeans (lead w) w
 unfolding lead
-lead-means w = pick-means LeadMeans (okName w) l-name (find l-other leads w) w (λ t. t) (λ t. find-means LeadMeans l-other leads w tt (refl, (refl, (refl, (refl, (refl, (refl, tt)))))))
+lead-means w = pick-means LeadMeans (is-name w) l-name (find l-other leads w) w (λ t. t) (λ t. find-means LeadMeans l-other leads w tt (refl, (refl, (refl, (refl, (refl, (refl, tt)))))))
 
 pub record TookS (s : List Name) (a : Stmt) (r : List Name) : Type 0 where
   pub used : List Name
   pub all : s ≡ used ++ r
-  pub is : St1 used a
+  pub is : IsStmt used a
 
 pub record TookB (s : List Name) (b : Block) (r : List Name) : Type 0 where
   pub used : List Name
   pub all : s ≡ used ++ (t-rc ∷ r)
-  pub is : Sts used b
+  pub is : IsBlock used b
 
 expr-s : (s : List Name) → Post (λ e r. Took 0 s e r × Ends 0 r) (expr s)
 expr-s s = climb-sound reader reader-sound 0 s zero-le
 
-semi-s : (pre : List Name) (c : Expr → Stmt) (s : List Name) → ((u : List Name) (e : Expr) → Ex 0 u e → St1 (pre ++ (u ++ (t-semi ∷ []))) (c e)) → Post (TookS (pre ++ s)) (exSemi c s)
+semi-s : (pre : List Name) (c : Expr → Stmt) (s : List Name) → ((u : List Name) (e : Expr) → IsExpr 0 u e → IsStmt (pre ++ (u ++ (t-semi ∷ []))) (c e)) → Post (TookS (pre ++ s)) (exSemi c s)
 semi-s pre c s f =
     post-bind _ (expr-s s) (λ e r k. post-eat t-semi r _ (λ r′ q.
     got-p (record { used = pre ++ (k .0 .used ++ (t-semi ∷ [])); all = rw (k .0 .all, q) (simp append-assoc); is = f (k .0 .used) e (k .0 .is) })))
 
-storeOr-s : (x : Name) (i : Expr) (u s : List Name) → T (okName x) → Ex 0 u i → Post (TookS (x ∷ t-lb ∷ (u ++ (t-rb ∷ s)))) (storeOr x i s)
+storeOr-s : (x : Name) (i : Expr) (u s : List Name) → T (is-name x) → IsExpr 0 u i → Post (TookS (x ∷ t-lb ∷ (u ++ (t-rb ∷ s)))) (storeOr x i s)
 storeOr-s x i u [] h y = none-p
 storeOr-s x i u (w ∷ s) h y =
     post-pick (same w t-gets)
@@ -62,7 +62,7 @@ storeOr-s x i u (w ∷ s) h y =
       is = ex-s (k .0 .is);
     }))))
 
-nameSt-s : (x : Name) (s : List Name) → T (okName x) → Post (TookS (x ∷ s)) (nameSt x s)
+nameSt-s : (x : Name) (s : List Name) → T (is-name x) → Post (TookS (x ∷ s)) (nameSt x s)
 nameSt-s x [] h = none-p
 nameSt-s x (w ∷ s) h =
     post-pick (same w t-gets)
@@ -72,10 +72,10 @@ nameSt-s x (w ∷ s) h =
     (λ g. semi-s [] ex1 (x ∷ w ∷ s) (λ u e y. ex-s y)))
 
 module _ (G : List Name → Res Block) (K : (s : List Name) → Post (TookB s) (G s)) where
-  block-s : (s : List Name) → Post (λ b r. (u : List Name) × (s ≡ t-lc ∷ (u ++ (t-rc ∷ r))) × Sts u b) (block G s)
+  block-s : (s : List Name) → Post (λ b r. (u : List Name) × (s ≡ t-lc ∷ (u ++ (t-rc ∷ r))) × IsBlock u b) (block G s)
   block-s s = post-eat t-lc s G (λ r q. weaken (K r) (λ b r′ k. (k .used, q ∙ ap (λ v. t-lc ∷ v) (k .all), k .is)))
 
-  elseOf-s : (e : Expr) (b : Block) (u t s : List Name) → Ex 0 u e → Sts t b → Post (TookS (k-if ∷ (u ++ (t-lc ∷ (t ++ (t-rc ∷ s)))))) (elseOf G e b s)
+  elseOf-s : (e : Expr) (b : Block) (u t s : List Name) → IsExpr 0 u e → IsBlock t b → Post (TookS (k-if ∷ (u ++ (t-lc ∷ (t ++ (t-rc ∷ s)))))) (elseOf G e b s)
   elseOf-s e b u t [] x y = got-p (record { used = k-if ∷ (u ++ (t-lc ∷ (t ++ (t-rc ∷ [])))); all = simp append-assoc; is = if-s x y })
   elseOf-s e b u t (w ∷ s) x y =
       post-pick (same w k-else)

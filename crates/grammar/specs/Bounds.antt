@@ -1,13 +1,13 @@
--- Static bounds: how many places code for a tree uses, and how many words it takes at most.
-use mathlib.Core.Bool.{Bool, true, false}
-use mathlib.Core.List.{List, [], _∷_, _++_}
-use Prim.Native.Nat.{ℕ, zero, suc, _+_, _-_, _*_, _≤_, max}
+-- Bounds that only the grammar gives, for any code made from a tree: how many values wait at once, and how many words for each byte.
+-- Rests on Syntax and Text; a generator states its costs as a record `Costs` and shows them `Fair`.
+use mathlib.Core.Bool.{true, false}
+use mathlib.Core.List.{List, [], _∷_}
+use Prim.Native.Nat.{ℕ, suc, _+_, _*_, _≤_, max}
 use lib.ListN.{length}
-use Rattle.language.specs.Syntax.{pick, Name, Expr, num, var, bin, un, and1, or1, idx, len, call, by-table, input, Exprs, no, and-then, Stmt, set1, store1, ex1, out1, if1, while1, ret1, break1, next1, Block, end, seq1, Param, Arr, Fn, Item, i-word, i-arr, i-data, i-table, i-fn, i-use, File, Prog}
-use Rattle.language.specs.Meaning.{Is, is-word, is-arr, is-table, is-fn, Top}
+use Rattle.language.specs.Syntax.{Expr, num, var, bin, un, and1, or1, idx, len, call, by-table, input, Exprs, no, and-then, Stmt, set1, store1, ex1, out1, if1, while1, ret1, break1, next1, Block, end, seq1, Fn, Item, i-word, i-arr, i-data, i-table, i-fn, i-use, Prog}
 use Rattle.grammar.specs.Text.{Reads}
 
--- of each function of a program
+-- what holds of each function of a program
 abbrev pub OfItem : (Fn → Type 0) → Item → Type 0
 OfItem P (i-word x) = Unit {0}
 OfItem P (i-arr a) = Unit {0}
@@ -24,11 +24,13 @@ abbrev pub AllFns : Prog → (Fn → Type 0) → Type 0
 AllFns [] P = Unit {0}
 AllFns (f ∷ fs) P = FnsI P (f .items) × AllFns fs P
 
+-- how many arguments
 abbrev pub count : Exprs → ℕ
 count no = 0
 count (and-then e es) = suc (count es)
 
--- how many places from the first free one on
+-- How many values wait at once when a tree is worked out with the operands from the left, each value in a place of its own until it is
+-- used. A call keeps one place besides its arguments' values, a call through a table two; a body has one at least.
 abbrev mutual
   pub deepE : Expr → ℕ
   deepE (num n) = 1
@@ -98,7 +100,8 @@ abbrev mutual
   FewB end = Unit {0}
   FewB (seq1 s b) = FewS s × FewB b
 
--- how many words code takes at most, by what it costs for each form
+-- how many words code takes for each form of a tree, without its parts: for an expression, an argument, a statement; a function, each
+-- parameter, variable and array of it; an item, each value, byte and entry of it; a file
 pub record Costs : Type 0 where
   pub c-num : ℕ
   pub c-var : ℕ
@@ -135,10 +138,12 @@ pub record Costs : Type 0 where
   pub c-use : ℕ
   pub c-file : ℕ
 
+-- k for each of a list
 abbrev pub each : {A : Type 0} → ℕ → List A → ℕ
 each k [] = 0
 each k (x ∷ xs) = k + each k xs
 
+-- how many words code takes, by its costs
 abbrev mutual
   pub wE : Costs → Expr → ℕ
   wE c (num n) = c .c-num
@@ -174,7 +179,9 @@ abbrev mutual
   wB c (seq1 s b) = wS c s + wB c b
 
 abbrev pub wFn : Costs → Fn → ℕ
-wFn c g = wB c (g .body) + each (c .c-param) (g .params) + each (c .c-local) (g .vars) + each (c .c-own) (g .arrs) + c .c-fn
+wFn c g =
+    wB c (g .body) + each (c .c-param) (g .params) + each (c .c-local) (g .vars) + each (c .c-own) (g .arrs)
+    + c .c-fn
 
 abbrev pub wI : Costs → Item → ℕ
 wI c (i-word x) = c .c-word
@@ -193,8 +200,8 @@ abbrev pub words : Costs → Prog → ℕ
 words c [] = 0
 words c (f ∷ fs) = wIs c (f .items) + words c fs + c .c-file
 
--- costs that m words for each byte of the text pay for: the multiple of m is how many bytes the form has at least, without its parts;
--- each expression leaves σ words over
+-- Costs that m words for each byte of the text pay for. The multiple of m is how many bytes the form has at least, without its parts: `x = e;`
+-- has 3 besides e. Each expression leaves σ words over, which the form around it may use.
 pub record Fair (m σ : ℕ) (c : Costs) : Type 0 where
   pub f-num : c .c-num + σ ≤ m
   pub f-var : c .c-var + σ ≤ m
@@ -231,28 +238,10 @@ pub record Fair (m σ : ℕ) (c : Costs) : Type 0 where
   pub f-use : c .c-use ≤ 6 * m
   pub f-file : c .c-file ≤ 6 * m
 
--- what the team's code costs
-abbrev pub given : Costs
-given = record { c-num = 4; c-var = 3; c-bin = 9; c-un = 6; c-and = 8; c-or = 10; c-idx = 12; c-len = 4; c-call = 6; c-table = 14; c-arg = 3; c-input = 8; c-set = 4; c-store = 14; c-ex = 0; c-out = 5; c-if = 8; c-while = 8; c-ret = 8; c-break = 3; c-next = 3; c-fn = 40; c-param = 2; c-local = 2; c-own = 16; c-word = 0; c-arr = 0; c-data = 0; c-value = 1; c-byte = 1; c-tab = 0; c-entry = 2; c-use = 0; c-file = 0 }
-
--- one for each node, argument, parameter, value and entry
-abbrev pub nodes : Costs
-nodes = record { c-num = 1; c-var = 1; c-bin = 1; c-un = 1; c-and = 1; c-or = 1; c-idx = 1; c-len = 1; c-call = 1; c-table = 1; c-arg = 1; c-input = 1; c-set = 1; c-store = 1; c-ex = 1; c-out = 1; c-if = 1; c-while = 1; c-ret = 1; c-break = 1; c-next = 1; c-fn = 1; c-param = 1; c-local = 1; c-own = 1; c-word = 1; c-arr = 1; c-data = 1; c-value = 1; c-byte = 1; c-tab = 1; c-entry = 1; c-use = 1; c-file = 1 }
-
--- the functions alone, as they are numbered over the files
-abbrev pub is-words : Costs → Is → ℕ
-is-words c (is-word i) = 0
-is-words c (is-arr a w) = 0
-is-words c (is-table fs) = 0
-is-words c (is-fn g) = wFn c g
-
-abbrev pub top-words : Costs → List Top → ℕ
-top-words c [] = 0
-top-words c (t ∷ ts) = is-words c (t .is) + top-words c ts
-
--- the two bounds, as types
+-- no function of a text's program has more than 593 values that wait at once
 abbrev pub Deep-bounded : Type 0
 Deep-bounded = (t : List ℕ) (p : Prog) → Reads t p → AllFns p (λ g. deepB (g .body) ≤ 593)
 
+-- code whose costs are fair for m takes at most m words for each byte of the text
 abbrev pub Words-bounded : Type 0
 Words-bounded = (m σ : ℕ) (c : Costs) → Fair m σ c → (t : List ℕ) (p : Prog) → Reads t p → words c p ≤ m * length t

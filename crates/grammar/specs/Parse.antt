@@ -1,13 +1,14 @@
--- The reader of pieces, as a function: what a piece is, and a loop over operators between recursions into brackets.
-use mathlib.Core.Path.{_≡_}
-use mathlib.Core.Bool.{Bool, true, false, _&&_, _||_, not}
-use mathlib.Core.List.{List, [], _∷_, _++_}
+-- The model parser of expressions, as a function of pieces: what a piece is, and a loop over operators between recursions into brackets.
+-- Rests on Text for the words alone; that it agrees with Text's relations is proved, so nobody need believe it. Code is proved against it.
+use mathlib.Core.Bool.{_&&_}
+use mathlib.Core.List.{List, [], _∷_}
 use mathlib.Core.Option.{Option, some, none}
-use Prim.Native.Nat.{ℕ, zero, suc, _≤_, _<_}
+use Prim.Native.Nat.{ℕ, zero, suc}
 use lib.ListN.{length}
+use lib.Chars.{codes}
 use lib.Dec.{leb}
 use Rattle.language.specs.Syntax.{pick, opt, Name, same, Expr, num, var, bin, un, and1, or1, idx, len, call, by-table, input, Exprs, no, and-then}
-use Rattle.grammar.specs.Text.{k-in, k-len, k-call, t-lp, t-rp, t-lb, t-rb, t-comma, okName, digitsV}
+use Rattle.grammar.specs.Text.{k-in, k-len, k-call, t-lp, t-rp, t-lb, t-rb, t-comma, is-name, decimal}
 
 -- an operator between two: || and && have forms of their own in the tree
 pub data Op : Type 0 where
@@ -59,22 +60,22 @@ abbrev pub fixed : List (Entry Piece)
 fixed =
     entry t-lp p-lp ∷ entry t-rp p-rp ∷ entry t-lb p-lb ∷ entry t-comma p-comma
     ∷ entry k-len p-len ∷ entry k-call p-call ∷ entry k-in p-in
-    ∷ entry (45 ∷ []) p-minus ∷ entry (33 ∷ []) (p-before 1) ∷ entry (126 ∷ []) (p-before 2)
-    ∷ entry (124 ∷ 124 ∷ []) (p-op (tie 0 o-or)) ∷ entry (38 ∷ 38 ∷ []) (p-op (tie 1 o-and))
-    ∷ entry (43 ∷ []) (p-op (tie 6 (o-bin 0)))
-    ∷ entry (42 ∷ []) (p-op (tie 7 (o-bin 2))) ∷ entry (47 ∷ []) (p-op (tie 7 (o-bin 3))) ∷ entry (37 ∷ []) (p-op (tie 7 (o-bin 4)))
-    ∷ entry (61 ∷ 61 ∷ []) (p-op (tie 2 (o-bin 5))) ∷ entry (33 ∷ 61 ∷ []) (p-op (tie 2 (o-bin 6)))
-    ∷ entry (60 ∷ []) (p-op (tie 2 (o-bin 7))) ∷ entry (60 ∷ 61 ∷ []) (p-op (tie 2 (o-bin 8)))
-    ∷ entry (62 ∷ []) (p-op (tie 2 (o-bin 9))) ∷ entry (62 ∷ 61 ∷ []) (p-op (tie 2 (o-bin 10)))
-    ∷ entry (38 ∷ []) (p-op (tie 4 (o-bin 11)))
-    ∷ entry (124 ∷ []) (p-op (tie 3 (o-bin 12))) ∷ entry (94 ∷ []) (p-op (tie 3 (o-bin 13)))
-    ∷ entry (60 ∷ 60 ∷ []) (p-op (tie 5 (o-bin 14))) ∷ entry (62 ∷ 62 ∷ []) (p-op (tie 5 (o-bin 15))) ∷ []
+    ∷ entry (codes "-") p-minus ∷ entry (codes "!") (p-before 1) ∷ entry (codes "~") (p-before 2)
+    ∷ entry (codes "||") (p-op (tie 0 o-or)) ∷ entry (codes "&&") (p-op (tie 1 o-and))
+    ∷ entry (codes "+") (p-op (tie 6 (o-bin 0)))
+    ∷ entry (codes "*") (p-op (tie 7 (o-bin 2))) ∷ entry (codes "/") (p-op (tie 7 (o-bin 3))) ∷ entry (codes "%") (p-op (tie 7 (o-bin 4)))
+    ∷ entry (codes "==") (p-op (tie 2 (o-bin 5))) ∷ entry (codes "!=") (p-op (tie 2 (o-bin 6)))
+    ∷ entry (codes "<") (p-op (tie 2 (o-bin 7))) ∷ entry (codes "<=") (p-op (tie 2 (o-bin 8)))
+    ∷ entry (codes ">") (p-op (tie 2 (o-bin 9))) ∷ entry (codes ">=") (p-op (tie 2 (o-bin 10)))
+    ∷ entry (codes "&") (p-op (tie 4 (o-bin 11)))
+    ∷ entry (codes "|") (p-op (tie 3 (o-bin 12))) ∷ entry (codes "^") (p-op (tie 3 (o-bin 13)))
+    ∷ entry (codes "<<") (p-op (tie 5 (o-bin 14))) ∷ entry (codes ">>") (p-op (tie 5 (o-bin 15))) ∷ []
 
 abbrev pub numOf : Name → Option ℕ
-numOf w = pick (leb 1 (length w) && leb (length w) 10) (digitsV 0 w) none
+numOf w = pick (leb 1 (length w) && leb (length w) 10) (decimal 0 w) none
 
 unfoldable pub look : Name → Piece
-look w = opt (numOf w) (pick (okName w) p-name (find p-other fixed w)) p-num
+look w = opt (numOf w) (pick (is-name w) p-name (find p-other fixed w)) p-num
 
 -- as an operator between two
 abbrev pub opOf : Piece → Option Tie
@@ -149,7 +150,7 @@ eat w (x ∷ r) k = pick (same x w) (k r) fail
 
 abbrev pub eatName : {C : Type 0} → List Name → (Name → List Name → Res C) → Res C
 eatName [] k = fail
-eatName (x ∷ r) k = pick (okName x) (k x r) fail
+eatName (x ∷ r) k = pick (is-name x) (k x r) fail
 
 -- the reader's calls of itself: one with its signs before; a chain behind a first operand, down to a tightness; the arguments behind one
 pub record Fns : Type 0 where
@@ -205,7 +206,9 @@ module _ (R : Fns) where
   start w p-lb s = fail
   start w p-comma s = fail
   start w p-len s = eat t-lp s (λ s₁. eatName s₁ (λ x s₂. eat t-rp s₂ (λ s₃. got (len x) s₃)))
-  start w p-call s = eatName s (λ x s₁. eat t-lb s₁ (λ s₂. bind (climb 0 s₂) (λ e r. eat t-rb r (λ r₁. eat t-lp r₁ (λ r₂. bind (argsOf r₂) (λ es r₃. got (by-table x e es) r₃))))))
+  start w p-call s =
+      eatName s (λ x s₁. eat t-lb s₁ (λ s₂. bind (climb 0 s₂) (λ e r. eat t-rb r (λ r₁. eat t-lp r₁ (λ r₂.
+      bind (argsOf r₂) (λ es r₃. got (by-table x e es) r₃))))))
   start w p-in s = eat t-lp s (λ s₁. eat t-rp s₁ (λ s₂. got input s₂))
   start w p-other s = fail
 

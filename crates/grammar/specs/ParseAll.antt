@@ -1,12 +1,14 @@
--- The reader of statements, items and files.
+-- The model parser of statements, items and files. Rests on Parse; that it agrees with Text's relations is proved (Reading has the laws).
+-- The equations that code is proved against stand in specs/Equations, their proofs in proofs/Equations: of expressions `reader-fixed`
+-- (proofs/ExprFuel), of the others `body-is`, `pars-is`, `arrs-is`, `items-is`, `files-is`, each by `again-is` (proofs/Unrolling).
 use mathlib.Core.Bool.{Bool, true, false}
-use mathlib.Core.List.{List, [], _∷_, _++_}
+use mathlib.Core.List.{List, [], _∷_}
 use mathlib.Core.Option.{Option, some, none}
 use Prim.Native.Nat.{ℕ, zero, suc}
 use lib.ListN.{length}
 use lib.Dec.{eqb}
-use Rattle.language.specs.Syntax.{pick, opt, Name, same, Expr, idx, Stmt, set1, store1, ex1, out1, if1, while1, ret1, break1, next1, Block, end, seq1, Kind, k-word, k-arr, Param, Arr, Fn, Item, i-word, i-arr, i-data, i-table, i-fn, i-use, File, Prog}
-use Rattle.grammar.specs.Text.{k-file, k-use, k-var, k-array, k-bytes, k-table, k-fn, k-if, k-else, k-while, k-return, k-break, k-continue, k-out, t-lp, t-rp, t-lb, t-rb, t-lc, t-rc, t-comma, t-semi, t-colon, t-gets, okName}
+use Rattle.language.specs.Syntax.{pick, opt, Name, same, Expr, idx, Stmt, set1, store1, ex1, out1, if1, while1, ret1, break1, next1, Block, end, seq1, Kind, k-word, k-arr, Param, Arr, Item, i-word, i-arr, i-data, i-table, i-fn, i-use, Prog}
+use Rattle.grammar.specs.Text.{k-file, k-use, k-var, k-array, k-bytes, k-table, k-fn, k-if, k-else, k-while, k-return, k-break, k-continue, k-out, t-lp, t-rp, t-lb, t-rb, t-lc, t-rc, t-comma, t-semi, t-colon, t-gets, is-name}
 use Rattle.grammar.specs.Parse.{Entry, entry, find, numOf, Res, fail, got, bind, eat, eatName, climb, reader}
 
 -- a step that calls itself on fewer pieces, as often as it takes
@@ -38,7 +40,7 @@ abbrev pub leads : List (Entry Lead)
 leads = entry k-out l-out ∷ entry k-if l-if ∷ entry k-while l-while ∷ entry k-return l-return ∷ entry k-break l-break ∷ entry k-continue l-next ∷ []
 
 unfoldable pub lead : Name → Lead
-lead w = pick (okName w) l-name (find l-other leads w)
+lead w = pick (is-name w) l-name (find l-other leads w)
 
 -- behind a name and an index in brackets
 abbrev pub storeOr : Name → Expr → List Name → Res Stmt
@@ -86,7 +88,7 @@ body = again bodyStep
 abbrev pub namesTo : List Name → Res (List Name)
 namesTo [] = fail
 namesTo (x ∷ []) = fail
-namesTo (x ∷ w ∷ s) = pick (okName x) (pick (same w t-comma) (bind (namesTo s) (λ xs r. got (x ∷ xs) r)) (pick (same w t-semi) (got (x ∷ []) s) fail)) fail
+namesTo (x ∷ w ∷ s) = pick (is-name x) (pick (same w t-comma) (bind (namesTo s) (λ xs r. got (x ∷ xs) r)) (pick (same w t-semi) (got (x ∷ []) s) fail)) fail
 
 abbrev pub eatNum : {C : Type 0} → List Name → (ℕ → List Name → Res C) → Res C
 eatNum [] k = fail
@@ -166,7 +168,10 @@ textTo x (q ∷ s) = opt (inQuotes q) fail (λ ns. eat t-semi s (λ r. got (i-da
 
 abbrev pub arrayIt : Name → List Name → Res Item
 arrayIt x [] = fail
-arrayIt x (w ∷ s) = pick (same w t-gets) (bind (numsTo s) (λ ns r. got (i-data true x ns) r)) (size (w ∷ s) (λ n r. got (i-arr (record { name = x; wide = true; size = n })) r))
+arrayIt x (w ∷ s) =
+    pick (same w t-gets)
+    (bind (numsTo s) (λ ns r. got (i-data true x ns) r))
+    (size (w ∷ s) (λ n r. got (i-arr (record { name = x; wide = true; size = n })) r))
 
 abbrev pub bytesIt : Name → List Name → Res Item
 bytesIt x [] = fail
@@ -174,7 +179,8 @@ bytesIt x (w ∷ s) = pick (same w t-gets) (textTo x s) (size (w ∷ s) (λ n r.
 
 abbrev pub fnIt : Name → List Name → Res Item
 fnIt x s =
-    eat t-lp s (λ s₁. bind (parsOf s₁) (λ qs s₂. eat t-lc s₂ (λ s₃. bind (varsOf s₃) (λ xs s₄. bind (again arrsStep s₄) (λ as₁ s₅. bind (body s₅) (λ b r.
+    eat t-lp s (λ s₁. bind (parsOf s₁) (λ qs s₂. eat t-lc s₂ (λ s₃.
+    bind (varsOf s₃) (λ xs s₄. bind (again arrsStep s₄) (λ as₁ s₅. bind (body s₅) (λ b r.
     got (i-fn (record { name = x; params = qs; vars = xs; arrs = as₁; body = b })) r))))))
 
 abbrev pub itBy : Head → List Name → Res Item

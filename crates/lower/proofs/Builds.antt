@@ -11,11 +11,10 @@ use lib.Dec.{T, ltb, leb, leb→le, ltb→lt, lt→ltb, nleb→lt}
 use Rattle.language.specs.Syntax.{pick, Prog, stage}
 use Rattle.language.specs.Meaning.{all-words}
 use Rattle.language.specs.Checks.{totals}
-use Rattle.language.proofs.Safe.{never-wrong, further}
 use Rattle.grammar.specs.Text.{Reads}
 use Rattle.grammar.specs.Reading.{reading}
 use Rattle.grammar.proofs.Reading.{reading-sound, reading-none}
-use Rattle.grammar.proofs.One.{one-program}
+use Rattle.grammar.proofs.TextLaws.{one-program, never-wrong, further}
 use Rattle.image.specs.Image.{Image, Sound, row}
 use Rattle.lower.specs.declared.Built.{Built}
 use Rattle.lower.specs.declared.Built.the-variants.{Done, ImageFull, NotYet, NoProgram, Few}
@@ -25,7 +24,7 @@ use Rattle.lower.specs.Build.{Outcome, refused, written, of-program, of-text, 
 use Rattle.lower.proofs.Correct.{compiled-right, compiled-sound, compiled-fits}
 
 pub parts : Parts
-parts = record { one-program = one-program; never-wrong = λ t p ins n r. never-wrong p ins n (r .sound); further = λ t p ins m n r. further p ins m n (r .sound) }
+parts = record { one-program = one-program; never-wrong = never-wrong; further = further }
 
 take-row : (r s : List ℕ) → take (length r) (r ++ s) ≡ r
 take-row [] s = refl

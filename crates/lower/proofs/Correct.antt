@@ -26,7 +26,7 @@ use Rattle.lower.proofs.Follows.{Ended}
 use Rattle.lower.proofs.BackEnd.{Backs, Same, Stopped, first-state, the-back-end}
 use Rattle.lower.proofs.Tame.{Begins, begins, bare-low}
 use Rattle.grammar.specs.Bounds.{words}
-use Rattle.grammar.proofs.Look.{and-0}
+use Rattle.grammar.proofs.PieceKinds.{and-0}
 use Rattle.grammar.proofs.Size.{words-bound}
 use Rattle.lower.proofs.CodeSize.{costs, costs-fair}
 use Rattle.lower.proofs.ImageSize.{row-long, image-long}

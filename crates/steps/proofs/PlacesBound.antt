@@ -9,7 +9,7 @@ use lib.ListN.{length}
 use lib.Dec.{T, eqb, ltb, leb, leb→le}
 use borrow.Author.Tests.{eqb-true}
 use Rattle.language.specs.Syntax.{pick, opt, nth, Name, same, listed, Expr, num, var, bin, un, and1, or1, idx, len, call, by-table, input, Exprs, no, and-then, Stmt, set1, store1, ex1, out1, if1, while1, ret1, break1, next1, Block, end, seq1, Kind, k-word, k-arr, Param, Arr, Fn, Item, i-word, i-arr, i-data, i-table, i-fn, i-use, File, Prog}
-use Rattle.grammar.specs.Text.{letter, letters, digit1, digitsV, okName, kept, Number, Between, Before, Names, one-n, more-n, Nums, one-v, more-v, Ex, looser, or-e, and-e, two-e, one-e, num-e, var-e, brackets-e, index-e, len-e, call-e, table-e, in-e, Exs, none-es, one-es, more-es, St1, set-s, store-s, ex-s, out-s, if-s, ifelse-s, while-s, return-s, break-s, continue-s, Sts, end-s, more-s, Par, word-p, wide-p, byte-p, Pars, none-ps, one-ps, more-ps, Vars, no-vars, some-vars, Arrs, no-arrs, wide-a, byte-a, It, word-i, wide-i, byte-i, data-i, text-i, table-i, use-i, fn-i, Its, no-items, more-items, Files, no-files, more-files, Reads, pieces, gap, opens, shuts, flat, t-lp, t-rp, t-lb, t-rb, t-lc, t-rc, t-comma, t-semi, t-gets, t-colon, k-if, k-else, k-var, k-fn, k-use, k-file}
+use Rattle.grammar.specs.Text.{word-byte, word-bytes, digit-first, decimal, is-name, reserved, IsNumber, Between, Before, AreNames, one-n, more-n, AreNumbers, one-v, more-v, IsExpr, looser, or-e, and-e, two-e, one-e, num-e, var-e, brackets-e, index-e, len-e, call-e, table-e, in-e, AreArgs, none-es, one-es, more-es, IsStmt, set-s, store-s, ex-s, out-s, if-s, ifelse-s, while-s, return-s, break-s, continue-s, IsBlock, end-s, more-s, IsParam, word-p, wide-p, byte-p, AreParams, none-ps, one-ps, more-ps, AreVars, no-vars, some-vars, AreArrays, no-arrs, wide-a, byte-a, IsItem, word-i, wide-i, byte-i, data-i, text-i, table-i, use-i, fn-i, AreItems, no-items, more-items, AreFiles, no-files, more-files, Reads, pieces, gap, opens, shuts, flat, t-lp, t-rp, t-lb, t-rb, t-lc, t-rc, t-comma, t-semi, t-gets, t-colon, k-if, k-else, k-var, k-fn, k-use, k-file}
 use Rattle.steps.specs.Steps.{Opnd}
 use Rattle.steps.specs.Generate.{Scope, arr-arg, needE, needEs, needS, needB, words-of, slots-from, slots-of, scope, sorted, gen-fn, gen-prog}
 use Rattle.language.specs.Meaning.{Top, tops, words-in, arrays-in, all-tops, resolve, as-fn, as-table, on-some}
@@ -37,15 +37,15 @@ not-eq f c k h g = go (eqb c k) refl
 plain-head : (f : ℕ → Bool) (c : ℕ) (cs : Name) → f c ≡ true → (f 40 ≡ false) × (f 41 ≡ false) × (f 91 ≡ false) × (f 93 ≡ false) × (f 123 ≡ false) × (f 125 ≡ false) → Plain (c ∷ cs)
 plain-head f c cs h z = (rw (not-eq f c 40 h (z .0), not-eq f c 91 h (z .2), not-eq f c 123 h (z .4)), rw (not-eq f c 41 h (z .1), not-eq f c 93 h (z .3), not-eq f c 125 h (z .5)))
 
-pub name-plain : (x : Name) → T (okName x) → Plain x
+pub name-plain : (x : Name) → T (is-name x) → Plain x
 name-plain [] h = absurd h
-name-plain (c ∷ cs) h = let a = and-true (leb 1 (length (c ∷ cs))) _ (t-true _ h) in let b = and-true (leb (length (c ∷ cs)) 32) _ (a .1) in let d = and-true (letters (c ∷ cs)) _ (b .1) in let e = and-true (letter c) (letters cs) (d .0) in plain-head letter c cs (e .0) (refl, refl, refl, refl, refl, refl)
+name-plain (c ∷ cs) h = let a = and-true (leb 1 (length (c ∷ cs))) _ (t-true _ h) in let b = and-true (leb (length (c ∷ cs)) 32) _ (a .1) in let d = and-true (word-bytes (c ∷ cs)) _ (b .1) in let e = and-true (word-byte c) (word-bytes cs) (d .0) in plain-head word-byte c cs (e .0) (refl, refl, refl, refl, refl, refl)
 
-pub number-plain : (w : Name) (n : ℕ) → Number w n → Plain w
+pub number-plain : (w : Name) (n : ℕ) → IsNumber w n → Plain w
 number-plain [] n h = absurd (h .0)
 number-plain (c ∷ cs) n h = go (leb 48 c && leb c 57) refl (h .1)
   where
-    go : (b : Bool) → (leb 48 c && leb c 57) ≡ b → pick b (digitsV (0 * 10 + (c - 48)) cs) none ≡ some n → Plain (c ∷ cs)
+    go : (b : Bool) → (leb 48 c && leb c 57) ≡ b → pick b (decimal (0 * 10 + (c - 48)) cs) none ≡ some n → Plain (c ∷ cs)
     go true e d = plain-head (λ c. leb 48 c && leb c 57) c cs e (refl, refl, refl, refl, refl, refl)
     go false e d = absurd (none-some d)
 
@@ -73,14 +73,14 @@ between n w o Between.more = ((refl, refl), omega arith)
 between n w o Between.least = ((refl, refl), omega arith)
 between n w o Between.both = ((refl, refl), omega arith)
 between n w o Between.any = ((refl, refl), omega arith)
-between n w o Between.odd1 = ((refl, refl), omega arith)
+between n w o Between.exclusive = ((refl, refl), omega arith)
 between n w o Between.left = ((refl, refl), omega arith)
 between n w o Between.right = ((refl, refl), omega arith)
 
 before : (w : Name) (o : ℕ) → Before w o → Plain w
-before w o Before.minus1 = (refl, refl)
-before w o Before.not1 = (refl, refl)
-before w o Before.turned = (refl, refl)
+before w o Before.minus-before = (refl, refl)
+before w o Before.not-before = (refl, refl)
+before w o Before.flip-before = (refl, refl)
 
 -- at most 8 arguments
 abbrev pub size : Exprs → ℕ
@@ -131,7 +131,7 @@ arg-need Γ e es = go (arr-arg Γ e)
 module _ (Γ : Scope) where
   -- with n brackets open
   mutual
-    ex-room : {k : ℕ} {s : List Name} {e : Expr} → Ex k s e → FewE e → (n : ℕ) (rest : List Name) → flat n (s ++ rest) ≡ true → (needE Γ e ≤ (10 - k) + (40 - n) * 18) × (flat n rest ≡ true)
+    ex-room : {k : ℕ} {s : List Name} {e : Expr} → IsExpr k s e → FewE e → (n : ℕ) (rest : List Name) → flat n (s ++ rest) ≡ true → (needE Γ e ≤ (10 - k) + (40 - n) * 18) × (flat n rest ≡ true)
     ex-room (looser {n = k} l x) f n rest h = let a = ex-room x f n rest h in (omega (arith, a .0), a .1)
     ex-room (or-e {s = s} {t = t} x y) f n rest h = let a = ex-room x (f .0) n _ (flat-split n s _ rest h) in let b = ex-room y (f .1) n rest (and-true (leb n 40) _ (a .1) .1) in (omega (arith, a .0, b .0), b .1)
     ex-room (and-e {s = s} {t = t} x y) f n rest h = let a = ex-room x (f .0) n _ (flat-split n s _ rest h) in let b = ex-room y (f .1) n rest (and-true (leb n 40) _ (a .1) .1) in (omega (arith, a .0, b .0), b .1)
@@ -152,13 +152,13 @@ module _ (Γ : Scope) where
         let g = flat-shut n rest (d .1) in (omega (arith, a .0, d .0, g .0, f .1), g .1)
     ex-room in-e f n rest h = let b : flat n (t-lp ∷ t-rp ∷ rest) ≡ true = and-true (leb n 40) _ h .1 in let a = and-true (leb n 40) _ b .1 in (omega arith, flat-shut n rest a .1)
 
-    exs-room : {s : List Name} {es : Exprs} → Exs s es → FewEs es → (n : ℕ) (rest : List Name) → flat n (s ++ rest) ≡ true → (needEs Γ es ≤ (size es + 9) + (40 - n) * 18) × (flat n rest ≡ true)
+    exs-room : {s : List Name} {es : Exprs} → AreArgs s es → FewEs es → (n : ℕ) (rest : List Name) → flat n (s ++ rest) ≡ true → (needEs Γ es ≤ (size es + 9) + (40 - n) * 18) × (flat n rest ≡ true)
     exs-room none-es f n rest h = (omega arith, h)
     exs-room (one-es {e = e} x) f n rest h = let a = ex-room x (f .0) n rest h in (omega (arith, a .0, arg-need Γ e no), a .1)
     exs-room (more-es {s = s} {t = t} {e = e} {f = e1} {es = es} x y) f n rest h = let a = ex-room x (f .0) n _ (flat-split n s _ rest h) in let b = exs-room y (f .1) n rest (and-true (leb n 40) _ (a .1) .1) in (omega (arith, a .0, b .0, arg-need Γ e (and-then e1 es)), b .1)
 
   mutual
-    st-room : {s : List Name} {a : Stmt} → St1 s a → FewS a → (n : ℕ) (rest : List Name) → flat n (s ++ rest) ≡ true → (needS Γ a ≤ 11 + (40 - n) * 18) × (flat n rest ≡ true)
+    st-room : {s : List Name} {a : Stmt} → IsStmt s a → FewS a → (n : ℕ) (rest : List Name) → flat n (s ++ rest) ≡ true → (needS Γ a ≤ 11 + (40 - n) * 18) × (flat n rest ≡ true)
     st-room (set-s {x = x} {s = s} q e) f n rest h = let a = ex-room e f n (t-semi ∷ rest) (flat-split n s (t-semi ∷ []) rest (and-true (leb n 40) _ (flat-on n x (t-gets ∷ ((s ++ (t-semi ∷ [])) ++ rest)) (name-plain x q) h) .1)) in (omega (arith, a .0), and-true (leb n 40) _ (a .1) .1)
     st-room (store-s {x = x} {s = s} {t = t} q i e) f n rest h =
         let u : List Name = t-rb ∷ t-gets ∷ (t ++ (t-semi ∷ [])) in
@@ -191,37 +191,37 @@ module _ (Γ : Scope) where
     st-room break-s f n rest h = let a : flat n (t-semi ∷ rest) ≡ true = and-true (leb n 40) _ h .1 in (omega arith, and-true (leb n 40) _ a .1)
     st-room continue-s f n rest h = let a : flat n (t-semi ∷ rest) ≡ true = and-true (leb n 40) _ h .1 in (omega arith, and-true (leb n 40) _ a .1)
 
-    sts-room : {s : List Name} {b : Block} → Sts s b → FewB b → (n : ℕ) (rest : List Name) → flat n (s ++ rest) ≡ true → (needB Γ b ≤ 11 + (40 - n) * 18) × (flat n rest ≡ true)
+    sts-room : {s : List Name} {b : Block} → IsBlock s b → FewB b → (n : ℕ) (rest : List Name) → flat n (s ++ rest) ≡ true → (needB Γ b ≤ 11 + (40 - n) * 18) × (flat n rest ≡ true)
     sts-room end-s f n rest h = (omega arith, h)
     sts-room (more-s {s = s} {t = t} a b) f n rest h = let x = st-room a (f .0) n (t ++ rest) (flat-split n s t rest h) in let y = sts-room b (f .1) n rest (x .1) in (omega (arith, x .0, y .0), y .1)
 
 -- what else stands in a file
-names-flat : {s xs : List Name} → Names s xs → (n : ℕ) (rest : List Name) → flat n (s ++ rest) ≡ true → flat n rest ≡ true
+names-flat : {s xs : List Name} → AreNames s xs → (n : ℕ) (rest : List Name) → flat n (s ++ rest) ≡ true → flat n rest ≡ true
 names-flat (one-n {x = x} q) n rest h = flat-on n x rest (name-plain x q) h
 names-flat (more-n {x = x} {s = s} q r) n rest h = names-flat r n rest (and-true (leb n 40) _ (flat-on n x (t-comma ∷ (s ++ rest)) (name-plain x q) h) .1)
 
-nums-flat : {s : List Name} {ns : List ℕ} → Nums s ns → (n : ℕ) (rest : List Name) → flat n (s ++ rest) ≡ true → flat n rest ≡ true
+nums-flat : {s : List Name} {ns : List ℕ} → AreNumbers s ns → (n : ℕ) (rest : List Name) → flat n (s ++ rest) ≡ true → flat n rest ≡ true
 nums-flat (one-v {w = w} {n = i} q) n rest h = flat-on n w rest (number-plain w i q) h
 nums-flat (more-v {w = w} {n = i} {s = s} q r) n rest h = nums-flat r n rest (and-true (leb n 40) _ (flat-on n w (t-comma ∷ (s ++ rest)) (number-plain w i q) h) .1)
 
-par-flat : {s : List Name} {q : Param} → Par s q → (n : ℕ) (rest : List Name) → flat n (s ++ rest) ≡ true → flat n rest ≡ true
+par-flat : {s : List Name} {q : Param} → IsParam s q → (n : ℕ) (rest : List Name) → flat n (s ++ rest) ≡ true → flat n rest ≡ true
 par-flat (word-p {x = x} q) n rest h = flat-on n x rest (name-plain x q) h
 par-flat (wide-p {x = x} q) n rest h = flat-shut n rest (and-true (leb n 40) _ (flat-on n x (t-lb ∷ t-rb ∷ rest) (name-plain x q) h) .1) .1
 par-flat (byte-p {x = x} q) n rest h = let a : flat (n + 1) (t-colon ∷ t-rb ∷ rest) ≡ true = and-true (leb n 40) _ (flat-on n x (t-lb ∷ t-colon ∷ t-rb ∷ rest) (name-plain x q) h) .1 in flat-shut n rest (and-true (leb (n + 1) 40) _ a .1) .1
 
-pars-flat : {s : List Name} {qs : List Param} → Pars s qs → (n : ℕ) (rest : List Name) → flat n (s ++ rest) ≡ true → flat n rest ≡ true
+pars-flat : {s : List Name} {qs : List Param} → AreParams s qs → (n : ℕ) (rest : List Name) → flat n (s ++ rest) ≡ true → flat n rest ≡ true
 pars-flat none-ps n rest h = h
 pars-flat (one-ps q) n rest h = par-flat q n rest h
 pars-flat (more-ps {s = s} {t = t} q r) n rest h = pars-flat r n rest (and-true (leb n 40) _ (par-flat q n (t-comma ∷ (t ++ rest)) (flat-split n s (t-comma ∷ t) rest h)) .1)
 
-vars-flat : {s xs : List Name} → Vars s xs → (n : ℕ) (rest : List Name) → flat n (s ++ rest) ≡ true → flat n rest ≡ true
+vars-flat : {s xs : List Name} → AreVars s xs → (n : ℕ) (rest : List Name) → flat n (s ++ rest) ≡ true → flat n rest ≡ true
 vars-flat no-vars n rest h = h
 vars-flat (some-vars {s = s} q) n rest h = and-true (leb n 40) _ (names-flat q n (t-semi ∷ rest) (flat-split n s (t-semi ∷ []) rest (and-true (leb n 40) _ h .1))) .1
 
-sized : (x w : Name) (i n : ℕ) (rest : List Name) → T (okName x) → Number w i → flat n (x ∷ t-lb ∷ w ∷ t-rb ∷ t-semi ∷ rest) ≡ true → flat n rest ≡ true
+sized : (x w : Name) (i n : ℕ) (rest : List Name) → T (is-name x) → IsNumber w i → flat n (x ∷ t-lb ∷ w ∷ t-rb ∷ t-semi ∷ rest) ≡ true → flat n rest ≡ true
 sized x w i n rest q r h = let a : flat n (t-lb ∷ w ∷ t-rb ∷ t-semi ∷ rest) ≡ true = flat-on n x (t-lb ∷ w ∷ t-rb ∷ t-semi ∷ rest) (name-plain x q) h in let b = flat-on (n + 1) w (t-rb ∷ t-semi ∷ rest) (number-plain w i r) (and-true (leb n 40) _ a .1) in and-true (leb n 40) _ (flat-shut n (t-semi ∷ rest) b .1) .1
 
-arrs-flat : {s : List Name} {as₁ : List Arr} → Arrs s as₁ → (n : ℕ) (rest : List Name) → flat n (s ++ rest) ≡ true → flat n rest ≡ true
+arrs-flat : {s : List Name} {as₁ : List Arr} → AreArrays s as₁ → (n : ℕ) (rest : List Name) → flat n (s ++ rest) ≡ true → flat n rest ≡ true
 arrs-flat no-arrs n rest h = h
 arrs-flat (wide-a {x = x} {w = w} {n = i} {s = s} q r k) n rest h = arrs-flat k n rest (sized x w i n (s ++ rest) q r (and-true (leb n 40) _ h .1))
 arrs-flat (byte-a {x = x} {w = w} {n = i} {s = s} q r k) n rest h = arrs-flat k n rest (sized x w i n (s ++ rest) q r (and-true (leb n 40) _ h .1))
@@ -242,7 +242,7 @@ RoomI (i-table x fs) = Unit {0}
 RoomI (i-fn g) = (Γ : Scope) → needB Γ (g .body) ≤ 731
 RoomI (i-use x ys) = Unit {0}
 
-it-room : {s : List Name} {i : Item} → It s i → FewI i → (n : ℕ) (rest : List Name) → flat n (s ++ rest) ≡ true → RoomI i × (flat n rest ≡ true)
+it-room : {s : List Name} {i : Item} → IsItem s i → FewI i → (n : ℕ) (rest : List Name) → flat n (s ++ rest) ≡ true → RoomI i × (flat n rest ≡ true)
 it-room (word-i {x = x} q) f n rest h = let a : flat n (x ∷ t-semi ∷ rest) ≡ true = and-true (leb n 40) _ h .1 in (tt, and-true (leb n 40) _ (flat-on n x (t-semi ∷ rest) (name-plain x q) a) .1)
 it-room (wide-i {x = x} {w = w} {n = i} q r) f n rest h = (tt, sized x w i n rest q r (and-true (leb n 40) _ h .1))
 it-room (byte-i {x = x} {w = w} {n = i} q r) f n rest h = (tt, sized x w i n rest q r (and-true (leb n 40) _ h .1))
@@ -261,11 +261,11 @@ it-room (fn-i {x = x} {s = s} {t = t} {u = u} {v = v} q ps vs as₁ b) f n rest 
     let a6 = flat-split (n + 1) v (t-rc ∷ []) rest a5 in
     ((λ Γ. omega (arith, sts-room Γ b f (n + 1) (t-rc ∷ rest) a6 .0)), flat-shut n rest (sts-room (scope [] [] []) b f (n + 1) (t-rc ∷ rest) a6 .1) .1)
 
-its-room : {s : List Name} {is : List Item} → Its s is → Each FewI is → (n : ℕ) (rest : List Name) → flat n (s ++ rest) ≡ true → Each RoomI is × (flat n rest ≡ true)
+its-room : {s : List Name} {is : List Item} → AreItems s is → Each FewI is → (n : ℕ) (rest : List Name) → flat n (s ++ rest) ≡ true → Each RoomI is × (flat n rest ≡ true)
 its-room no-items f n rest h = (tt, h)
 its-room (more-items {s = s} {t = t} i r) f n rest h = let a = it-room i (f .0) n (t ++ rest) (flat-split n s t rest h) in let b = its-room r (f .1) n rest (a .1) in ((a .0, b .0), b .1)
 
-files-room : {s : List Name} {p : Prog} → Files s p → Each (λ f. Each FewI (f .items)) p → flat 0 s ≡ true → Each (λ f. Each RoomI (f .items)) p
+files-room : {s : List Name} {p : Prog} → AreFiles s p → Each (λ f. Each FewI (f .items)) p → flat 0 s ≡ true → Each (λ f. Each RoomI (f .items)) p
 files-room no-files f h = tt
 files-room (more-files {x = x} {s = s} {t = t} q i r) f h = let a : flat 0 (x ∷ t-semi ∷ (s ++ t)) ≡ true = and-true (leb 0 40) _ h .1 in let b = its-room i (f .0) 0 t (and-true (leb 0 40) _ (flat-on 0 x (t-semi ∷ (s ++ t)) (name-plain x q) a) .1) in (b .0, files-room r (f .1) (b .1))
 

@@ -1,20 +1,19 @@
--- What is an expression of the relation is read as that one, by any reader that is its own step.
+-- What is an expression by the relation is read as that one, by any reader that is its own step.
+-- Rests on PieceKinds; the claim is that reading goes on with the chain behind the expression, so that chains to the left need no more.
 use mathlib.Core.Path.{_≡_, refl, sym, _∙_, ap, subst}
-use mathlib.Core.Bool.{Bool, true, false, _&&_, _||_, not}
 use mathlib.Core.List.{List, [], _∷_, _++_, append-assoc}
 use mathlib.Core.Option.{Option, some, none, Option·none-ne-some, Option·some-injective}
 use mathlib.Core.Logic.{_⊎_, inl, inr}
-use Prim.Native.Nat.{ℕ, zero, suc, _≤_, _<_, zero-le}
+use Prim.Native.Nat.{ℕ, suc, _≤_, _<_}
 use native.Mathlib.Omega.{arith}
 use native.Mathlib.Nat.{le-refl}
-use lib.ListN.{length}
-use lib.Dec.{leb, eqb, T, leb→le, le→leb, nleb→lt, not-T, lit<, lit≤}
-use Rattle.language.specs.Syntax.{pick, opt, Name, same, Expr, num, var, bin, un, and1, or1, idx, len, call, by-table, input, Exprs, no, and-then}
-use Rattle.grammar.specs.Text.{k-in, k-len, k-call, t-lp, t-rp, t-lb, t-rb, t-comma, okName, Number, Before, Ex, looser, or-e, and-e, two-e, one-e, num-e, var-e, brackets-e, index-e, len-e, call-e, table-e, in-e, Exs, none-es, one-es, more-es}
-use Rattle.grammar.specs.Parse.{Op, join, Tie, tie, Piece, p-num, p-name, p-op, p-minus, p-before, p-lp, p-rp, p-lb, p-comma, p-len, p-call, p-in, p-other, look, opOf, After, a-call, a-index, a-none, after, Go, g-more, g-end, g-none, goOn, Res, fail, got, bind, eat, eatName, Fns, climb, behind, argsBy, argsOf, nextBy, nextArg, named, name, signed, start, oneStep, chainBy, chainStep}
-use Rattle.grammar.proofs.Look.{true-of, false-of, Ties, or-t, and-t, bin-t, ties-low, ties-look, ties-after, look-means, look-num, look-name, look-before}
-use Rattle.grammar.proofs.Sound.{Ends, ends-8, GoMeans, go-means}
-use Rattle.grammar.proofs.Fuel.{Fixed}
+use lib.Dec.{leb, T, leb→le, le→leb, not-T}
+use Rattle.language.specs.Syntax.{Name, Expr, num, var, un, idx, len, call, by-table, input, Exprs, no, and-then}
+use Rattle.grammar.specs.Text.{k-in, k-len, k-call, t-lp, t-rp, t-lb, t-rb, t-comma, is-name, IsNumber, Before, IsExpr, looser, or-e, and-e, two-e, one-e, num-e, var-e, brackets-e, index-e, len-e, call-e, table-e, in-e, AreArgs, none-es, one-es, more-es}
+use Rattle.grammar.specs.Parse.{join, Tie, Piece, p-num, p-name, p-minus, p-before, p-lp, p-len, p-call, p-in, look, opOf, a-none, after, Go, g-more, g-end, g-none, goOn, fail, got, bind, eat, Fns, climb, behind, argsBy, argsOf, named, name, start, chainBy}
+use Rattle.grammar.proofs.PieceKinds.{true-of, false-of, Ties, or-t, and-t, bin-t, ties-low, ties-look, ties-after, look-means, look-num, look-name, look-before}
+use Rattle.grammar.proofs.ExprSound.{Ends, GoMeans, go-means}
+use Rattle.grammar.specs.Equations.{Fixed}
 
 -- the next piece opens nothing behind a name
 abbrev pub Quiet : List Name → Type 0
@@ -105,25 +104,25 @@ module _ (R : Fns) (F : Fixed R) where
       go r q (inl e) = begins w (s ++ r) (p-before o) e ∙ ap (λ x. bind x (λ e r. got (un o e) r)) (p .tight (le-refl _) r q)
       go r q (inr h) = begins w (s ++ r) p-minus (h .0) ∙ ap (λ x. bind x (λ e r. got (un 0 e) r)) (p .tight (le-refl _) r q) ∙ ap (λ x. got (un x a) r) (sym (h .1))
 
-  num-p : {w : Name} {n : ℕ} → Number w n → Parsed R 9 (w ∷ []) (num n)
+  num-p : {w : Name} {n : ℕ} → IsNumber w n → Parsed R 9 (w ∷ []) (num n)
   num-p {w} {n} h = of-tight (λ r q. begins w r (p-num n) (look-num w n h))
 
   var-q : (x : Name) (r : List Name) → Quiet r → name R x r ≡ got (var x) r
   var-q x [] q = refl
   var-q x (w ∷ r) q = ap (λ a. named R x a (w ∷ r) r) q
 
-  var-p : {x : Name} → T (okName x) → Parsed R 9 (x ∷ []) (var x)
+  var-p : {x : Name} → T (is-name x) → Parsed R 9 (x ∷ []) (var x)
   var-p {x} h = of-tight (λ r q. begins x r p-name (look-name x h) ∙ var-q x r q)
 
   brackets-p : {s : List Name} {e : Expr} → Parsed R 0 s e → Parsed R 9 (t-lp ∷ (s ++ (t-rp ∷ []))) e
   unfolding look
   brackets-p {s} {e} p = of-tight (λ r q. begins t-lp _ p-lp refl ∙ ap (λ x. bind x (λ e r. eat t-rp r (λ r′. got e r′))) (inner′ t-rp r shuts-rp p))
 
-  index-p : {x : Name} {s : List Name} {e : Expr} → T (okName x) → Parsed R 0 s e → Parsed R 9 (x ∷ t-lb ∷ (s ++ (t-rb ∷ []))) (idx x e)
+  index-p : {x : Name} {s : List Name} {e : Expr} → T (is-name x) → Parsed R 0 s e → Parsed R 9 (x ∷ t-lb ∷ (s ++ (t-rb ∷ []))) (idx x e)
   unfolding look
   index-p {x} h p = of-tight (λ r q. begins x _ p-name (look-name x h) ∙ ap (λ y. bind y (λ e r. eat t-rb r (λ r′. got (idx x e) r′))) (inner′ t-rb r shuts-rb p))
 
-  len-p : {x : Name} → T (okName x) → Parsed R 9 (k-len ∷ t-lp ∷ x ∷ t-rp ∷ []) (len x)
+  len-p : {x : Name} → T (is-name x) → Parsed R 9 (k-len ∷ t-lp ∷ x ∷ t-rp ∷ []) (len x)
   unfolding look
   len-p {x} h = of-tight (λ r q. begins k-len _ p-len refl ∙ rw (true-of _ h))
 
@@ -152,11 +151,11 @@ module _ (R : Fns) (F : Fixed R) where
   args-p : (x : List Name) (es : Exprs) (r : List Name) → First R x es → argsOf R ((x ++ (t-rp ∷ [])) ++ r) ≡ got es r
   args-p s es r p = ap (argsOf R) (append-assoc s (t-rp ∷ []) r) ∙ all-args s es r p
 
-  call-p : {x : Name} (s : List Name) (es : Exprs) → T (okName x) → First R s es → Parsed R 9 (x ∷ t-lp ∷ (s ++ (t-rp ∷ []))) (call x es)
+  call-p : {x : Name} (s : List Name) (es : Exprs) → T (is-name x) → First R s es → Parsed R 9 (x ∷ t-lp ∷ (s ++ (t-rp ∷ []))) (call x es)
   unfolding look
   call-p {x} s es h p = of-tight (λ r q. begins x _ p-name (look-name x h) ∙ ap (λ y. bind y (λ es r. got (call x es) r)) (args-p s es r p))
 
-  table-p : {x : Name} {s : List Name} (t : List Name) {e : Expr} (es : Exprs) → T (okName x) → Parsed R 0 s e → First R t es → Parsed R 9 (k-call ∷ x ∷ t-lb ∷ (s ++ (t-rb ∷ t-lp ∷ (t ++ (t-rp ∷ []))))) (by-table x e es)
+  table-p : {x : Name} {s : List Name} (t : List Name) {e : Expr} (es : Exprs) → T (is-name x) → Parsed R 0 s e → First R t es → Parsed R 9 (k-call ∷ x ∷ t-lb ∷ (s ++ (t-rb ∷ t-lp ∷ (t ++ (t-rp ∷ []))))) (by-table x e es)
   unfolding look
   table-p {x} {s} t {e} es h p g = of-tight (λ r q. begins k-call _ p-call refl ∙ rw (true-of _ h)
       (ap (λ y. bind y (λ e r. eat t-rb r (λ r₁. eat t-lp r₁ (λ r₂. bind (argsOf R r₂) (λ es r₃. got (by-table x e es) r₃)))))
@@ -175,7 +174,7 @@ module _ (R : Fns) (F : Fixed R) where
       ∙ ap (λ x. bind x (λ es r′. got (and-then e es) r′)) (F .args-is (t-comma ∷ (t ++ (t-rp ∷ r))) ∙ g r)
 
   mutual
-    pub complete : {m : ℕ} {s : List Name} {e : Expr} → Ex m s e → Parsed R m s e
+    pub complete : {m : ℕ} {s : List Name} {e : Expr} → IsExpr m s e → Parsed R m s e
     complete (looser h x) = looser-p (complete x)
     complete (or-e x y) = ties-p or-t (complete x) (complete y)
     complete (and-e x y) = ties-p and-t (complete x) (complete y)
@@ -190,7 +189,7 @@ module _ (R : Fns) (F : Fixed R) where
     complete (table-e h x y) = table-p _ _ h (complete x) (completes y)
     complete in-e = in-p
 
-    pub completes : {s : List Name} {es : Exprs} → Exs s es → First R s es
+    pub completes : {s : List Name} {es : Exprs} → AreArgs s es → First R s es
     completes none-es = refl
     completes (one-es x) = last-p (complete x)
     completes (more-es x y) = more-p _ _ _ (complete x) (completes y)

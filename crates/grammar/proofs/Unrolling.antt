@@ -1,15 +1,15 @@
--- A step that calls itself on fewer pieces: its equation, and induction over it.
-use mathlib.Core.Path.{_≡_, refl, sym, _∙_, ap}
-use mathlib.Core.List.{List, [], _∷_}
-use Prim.Native.Nat.{ℕ, zero, suc, _≤_, _<_}
+-- A step that calls itself on fewer pieces, unrolled as often as there are pieces: its equation, and induction over it.
+use mathlib.Core.Path.{_≡_}
+use mathlib.Core.List.{List}
+use Prim.Native.Nat.{ℕ, zero, suc, _<_}
 use native.Mathlib.Omega.{arith}
 use native.Mathlib.Nat.{le-refl, not-suc-le-zero}
 use lib.ListN.{length}
 use Rattle.language.specs.Syntax.{Name}
-use Rattle.grammar.specs.Parse.{Res, fail, got}
+use Rattle.grammar.specs.Parse.{Res}
 use Rattle.grammar.specs.ParseAll.{upToF, again}
-use Rattle.grammar.proofs.Sound.{Post, none-p, got-p}
-use Rattle.grammar.proofs.Fuel.{Fewer, NoMore}
+use Rattle.grammar.proofs.ExprSound.{Post, none-p}
+use Rattle.grammar.proofs.ExprFuel.{NoMore}
 
 abbrev pub Less : {A : Type 0} → (List Name → Res A) → Type 0
 Less G = (s : List Name) → Post (NoMore s) (G s)

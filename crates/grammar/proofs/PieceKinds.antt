@@ -1,17 +1,17 @@
--- What a piece is, against the relations: `look` says p of w just where p means w.
-use mathlib.Core.Path.{_≡_, refl, sym, _∙_, ap, subst}
-use mathlib.Core.Bool.{Bool, true, false, _&&_, _||_, not}
+-- What a piece is: `look` says p of w just where the relations do. With small laws of tests and of equal names.
+-- Rests on Text and Parse; soundness and completeness of the parser begin here.
+use mathlib.Core.Path.{_≡_, refl, sym, subst}
+use mathlib.Core.Bool.{Bool, true, false, _&&_, not}
 use mathlib.Core.List.{List, [], _∷_, _++_}
 use mathlib.Core.Option.{Option, some, none, Option·none-ne-some, Option·some-injective}
 use mathlib.Core.Logic.{_⊎_, inl, inr}
-use Prim.Native.Nat.{ℕ, zero, suc, _≤_, _<_}
-use native.Mathlib.Omega.{arith}
+use Prim.Native.Nat.{ℕ, suc, _<_}
 use lib.ListN.{length}
-use lib.Dec.{leb, eqb, T, eqb→eq, eqb-refl, lit<, lit≤}
-use Rattle.language.specs.Syntax.{pick, opt, Name, same, Expr, num, var, bin, un, and1, or1}
-use Rattle.grammar.specs.Text
-use Rattle.grammar.specs.Text.{k-in, k-len, k-call, t-lp, t-rp, t-lb, t-rb, t-comma, okName, digitsV, digit1, letters, Number, Between, plus, minus, times, over, rest, is, isnt, less, most, more, least, both, any, odd1, left, right, Before, minus1, not1, turned, Ex, or-e, and-e, two-e}
-use Rattle.grammar.specs.Parse.{Op, o-or, o-and, o-bin, join, Tie, tie, Piece, p-num, p-name, p-op, p-minus, p-before, p-lp, p-rp, p-lb, p-comma, p-len, p-call, p-in, p-other, Entry, entry, find, fixed, numOf, look, opOf, a-none, after}
+use lib.Chars.{codes}
+use lib.Dec.{leb, eqb, T, eqb→eq, eqb-refl, lit<}
+use Rattle.language.specs.Syntax.{pick, opt, Name, same, Expr}
+use Rattle.grammar.specs.Text.{k-in, k-len, k-call, t-lp, t-rp, t-lb, t-comma, is-name, decimal, digit-first, word-bytes, IsNumber, Between, plus, minus, times, over, rest, is, isnt, less, most, more, least, both, any, exclusive, left, right, Before, minus-before, not-before, flip-before, IsExpr, or-e, and-e, two-e}
+use Rattle.grammar.specs.Parse.{o-or, o-and, o-bin, join, Tie, tie, Piece, p-num, p-name, p-op, p-minus, p-before, p-lp, p-rp, p-lb, p-comma, p-len, p-call, p-in, p-other, Entry, find, fixed, numOf, look, opOf, a-none, after}
 
 -- tests
 pub T-of : {b : Bool} → b ≡ true → T b
@@ -48,20 +48,20 @@ same-refl (x ∷ xs) = rw (true-of _ (eqb-refl x)) (same-refl xs)
 
 -- an operator between two with its tightness, all of one form
 pub data Ties : Tie → Name → Type 0 where
-  or-t : Ties (tie 0 o-or) (124 ∷ 124 ∷ [])
-  and-t : Ties (tie 1 o-and) (38 ∷ 38 ∷ [])
+  or-t : Ties (tie 0 o-or) (codes "||")
+  and-t : Ties (tie 1 o-and) (codes "&&")
   bin-t : {n o : ℕ} {w : Name} → Between n w o → Ties (tie n (o-bin o)) w
 
-pub ties-ex : {t : Tie} {w : Name} {s u : List Name} {a b : Expr} → Ties t w → Ex (t .lvl) s a → Ex (suc (t .lvl)) u b → Ex (t .lvl) (s ++ (w ∷ u)) (join (t .op) a b)
+pub ties-ex : {t : Tie} {w : Name} {s u : List Name} {a b : Expr} → Ties t w → IsExpr (t .lvl) s a → IsExpr (suc (t .lvl)) u b → IsExpr (t .lvl) (s ++ (w ∷ u)) (join (t .op) a b)
 ties-ex or-t x y = or-e x y
 ties-ex and-t x y = and-e x y
 ties-ex (bin-t h) x y = two-e x h y
 
 abbrev pub Means : Piece → Name → Type 0
-Means (p-num n) w = Number w n
-Means p-name w = T (okName w)
+Means (p-num n) w = IsNumber w n
+Means p-name w = T (is-name w)
 Means (p-op t) w = Ties t w
-Means p-minus w = w ≡ 45 ∷ []
+Means p-minus w = w ≡ codes "-"
 Means (p-before o) w = Before w o
 Means p-lp w = w ≡ t-lp
 Means p-rp w = w ≡ t-rp
@@ -106,9 +106,9 @@ fixed-right = (
               (
                 refl,
                 (
-                  not1,
+                  not-before,
                   (
-                    turned,
+                    flip-before,
                     (
                       or-t,
                       (
@@ -121,7 +121,7 @@ fixed-right = (
                               bin-t over,
                               (
                                 bin-t rest,
-                                (bin-t is, (bin-t isnt, (bin-t less, (bin-t most, (bin-t more, (bin-t least, (bin-t both, (bin-t any, (bin-t odd1, (bin-t left, (bin-t right, tt))))))))))),
+                                (bin-t is, (bin-t isnt, (bin-t less, (bin-t most, (bin-t more, (bin-t least, (bin-t both, (bin-t any, (bin-t exclusive, (bin-t left, (bin-t right, tt))))))))))),
                               ),
                             ),
                           ),
@@ -140,7 +140,7 @@ fixed-right = (
 )
 
 -- numbers
-pub digits-of : (b : Bool) (w : Name) (n : ℕ) → pick b (digitsV 0 w) none ≡ some n → T b × (digitsV 0 w ≡ some n)
+pub digits-of : (b : Bool) (w : Name) (n : ℕ) → pick b (decimal 0 w) none ≡ some n → T b × (decimal 0 w ≡ some n)
 digits-of true w n h = (tt, h)
 digits-of false w n h = absurd (Option·none-ne-some n h)
 
@@ -148,36 +148,36 @@ pick-none : (b : Bool) → pick {A = Option ℕ} b none none ≡ none
 pick-none true = refl
 pick-none false = refl
 
-name-digits : (x : Name) → T (okName x) → digitsV 0 x ≡ none
+name-digits : (x : Name) → T (is-name x) → decimal 0 x ≡ none
 name-digits [] t = absurd t
 name-digits (c ∷ cs) t =
-    let d = and-1 (letters (c ∷ cs)) _ (and-1 (leb (length (c ∷ cs)) 32) _ (and-1 (leb 1 (length (c ∷ cs))) _ t)) in
-    rw (false-of (digit1 (c ∷ cs)) (and-0 (not (digit1 (c ∷ cs))) _ d))
+    let d = and-1 (word-bytes (c ∷ cs)) _ (and-1 (leb (length (c ∷ cs)) 32) _ (and-1 (leb 1 (length (c ∷ cs))) _ t)) in
+    rw (false-of (digit-first (c ∷ cs)) (and-0 (not (digit-first (c ∷ cs))) _ d))
 
-pub name-no-num : (x : Name) → T (okName x) → numOf x ≡ none
+pub name-no-num : (x : Name) → T (is-name x) → numOf x ≡ none
 name-no-num x t = rw (name-digits x t) (pick-none _)
 
 pub look-means : (w : Name) → Means (look w) w
 unfolding look
 look-means w = go (numOf w) refl
   where
-    go : (o : Option ℕ) → numOf w ≡ o → Means (opt o (pick (okName w) p-name (find p-other fixed w)) p-num) w
-    go none q = pick-means Means (okName w) p-name (find p-other fixed w) w (λ t. t) (λ t. find-means Means p-other fixed w tt fixed-right)
+    go : (o : Option ℕ) → numOf w ≡ o → Means (opt o (pick (is-name w) p-name (find p-other fixed w)) p-num) w
+    go none q = pick-means Means (is-name w) p-name (find p-other fixed w) w (λ t. t) (λ t. find-means Means p-other fixed w tt fixed-right)
     go (some n) q = digits-of (leb 1 (length w) && leb (length w) 10) w n q
 
-pub look-num : (w : Name) (n : ℕ) → Number w n → look w ≡ p-num n
+pub look-num : (w : Name) (n : ℕ) → IsNumber w n → look w ≡ p-num n
 unfolding look
 look-num w n h = rw (true-of _ (h .0), h .1)
 
-pub look-name : (x : Name) → T (okName x) → look x ≡ p-name
+pub look-name : (x : Name) → T (is-name x) → look x ≡ p-name
 unfolding look
 look-name x t = rw (name-no-num x t, true-of _ t)
 
 pub look-before : {w : Name} {o : ℕ} → Before w o → (look w ≡ p-before o) ⊎ ((look w ≡ p-minus) × (o ≡ 0))
 unfolding look
-look-before minus1 = inr (refl, refl)
-look-before not1 = inl refl
-look-before turned = inl refl
+look-before minus-before = inr (refl, refl)
+look-before not-before = inl refl
+look-before flip-before = inl refl
 
 -- an operator between two is seen as such, and only those of the relation are
 pub ties-look : {t : Tie} {w : Name} → Ties t w → opOf (look w) ≡ some t
@@ -197,7 +197,7 @@ ties-look (bin-t more) = refl
 ties-look (bin-t least) = refl
 ties-look (bin-t both) = refl
 ties-look (bin-t any) = refl
-ties-look (bin-t odd1) = refl
+ties-look (bin-t exclusive) = refl
 ties-look (bin-t left) = refl
 ties-look (bin-t right) = refl
 
@@ -217,7 +217,7 @@ ties-low (bin-t more) = lit< tt
 ties-low (bin-t least) = lit< tt
 ties-low (bin-t both) = lit< tt
 ties-low (bin-t any) = lit< tt
-ties-low (bin-t odd1) = lit< tt
+ties-low (bin-t exclusive) = lit< tt
 ties-low (bin-t left) = lit< tt
 ties-low (bin-t right) = lit< tt
 
@@ -239,7 +239,7 @@ ties-after (bin-t more) = refl
 ties-after (bin-t least) = refl
 ties-after (bin-t both) = refl
 ties-after (bin-t any) = refl
-ties-after (bin-t odd1) = refl
+ties-after (bin-t exclusive) = refl
 ties-after (bin-t left) = refl
 ties-after (bin-t right) = refl
 

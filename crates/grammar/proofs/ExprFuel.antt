@@ -1,17 +1,19 @@
--- The reader is its own step: how far it was to go does not matter once that is all the pieces.
-use mathlib.Core.Path.{_≡_, refl, sym, _∙_, ap, subst}
-use mathlib.Core.Bool.{Bool, true, false, not}
-use mathlib.Core.List.{List, [], _∷_, _++_}
+-- The reader of expressions is its own step: how many pieces it was to read at most does not matter once that is all there are.
+-- Rests on ExprSound for `Post`; the equations of the model parser begin here.
+use mathlib.Core.Path.{_≡_, refl, sym, _∙_, ap}
+use mathlib.Core.Bool.{Bool, true, false}
+use mathlib.Core.List.{List, [], _∷_}
 use mathlib.Core.Option.{Option, some, none}
-use Prim.Native.Nat.{ℕ, zero, suc, _≤_, _<_, zero-le, suc-le-suc}
+use Prim.Native.Nat.{ℕ, zero, suc, _≤_, _<_, suc-le-suc}
 use native.Mathlib.Omega.{arith}
 use native.Mathlib.Nat.{le-refl, le-of-suc-le-suc, not-suc-le-zero}
 use lib.ListN.{length}
 use lib.Dec.{leb, T}
-use Rattle.language.specs.Syntax.{pick, Name, same, Expr, num, var, bin, un, idx, len, call, by-table, input, Exprs, no, and-then}
-use Rattle.grammar.specs.Text.{t-lp, t-rp, t-lb, t-rb, okName}
-use Rattle.grammar.specs.Parse.{Op, join, Tie, Piece, p-num, p-name, p-op, p-minus, p-before, p-lp, p-rp, p-lb, p-comma, p-len, p-call, p-in, p-other, look, opOf, After, a-call, a-index, a-none, after, Go, g-more, g-end, g-none, goOn, Res, fail, got, bind, eat, eatName, Fns, climb, behind, argsBy, argsOf, nextBy, nextArg, named, name, signed, start, oneStep, chainBy, chainStep, step, stop, upTo, reader}
-use Rattle.grammar.proofs.Sound.{Post, none-p, got-p, post-bind, post-pick, post-eat, post-eatName}
+use Rattle.language.specs.Syntax.{pick, Name, same, Expr, un, idx, call, by-table, and-then}
+use Rattle.grammar.specs.Text.{t-lp, t-rp, t-lb, t-rb, is-name}
+use Rattle.grammar.specs.Parse.{join, Tie, Piece, p-num, p-name, p-op, p-minus, p-before, p-lp, p-rp, p-lb, p-comma, p-len, p-call, p-in, p-other, look, opOf, After, a-call, a-index, a-none, after, Go, g-more, g-end, g-none, goOn, Res, fail, got, bind, eat, eatName, Fns, climb, behind, argsBy, argsOf, nextBy, nextArg, named, name, start, oneStep, chainBy, chainStep, step, stop, upTo, reader}
+use Rattle.grammar.specs.Equations.{Fixed}
+use Rattle.grammar.proofs.ExprSound.{Post, none-p, got-p, post-bind, post-pick, post-eat, post-eatName}
 
 -- fewer pieces are left
 abbrev pub Fewer : {A : Type 0} → List Name → A → List Name → Type 0
@@ -129,7 +131,7 @@ eat-agree w (x ∷ r) k k′ f = pick-agree (same x w) _ (λ t. f r (le-refl _))
 
 pub eatName-agree : {C : Type 0} (s : List Name) (k k′ : Name → List Name → Res C) → ((x : Name) (r : List Name) → length r < length s → k x r ≡ k′ x r) → eatName s k ≡ eatName s k′
 eatName-agree [] k k′ f = refl
-eatName-agree (x ∷ r) k k′ f = pick-agree (okName x) _ (λ t. f x r (le-refl _))
+eatName-agree (x ∷ r) k k′ f = pick-agree (is-name x) _ (λ t. f x r (le-refl _))
 
 module _ (R S : Fns) (m : ℕ) (L : Shrinks R) (A : Agree m R S) where
   climb-a : (n : ℕ) (s : List Name) → length s ≤ m → climb R n s ≡ climb S n s
@@ -246,11 +248,6 @@ unfolding upTo
 reader-b f = step-a (upTo f) reader f (upTo-l f) (reader-a f)
 
 -- what the reader does, with no count of how far
-pub record Fixed (R : Fns) : Type 0 where
-  pub one-is : (s : List Name) → R .one s ≡ oneStep R s
-  pub chain-is : (n : ℕ) (a : Expr) (s : List Name) → R .chain n a s ≡ chainStep R n a s
-  pub args-is : (s : List Name) → R .args s ≡ nextArg R s
-
 one-fix : (s : List Name) → reader .one s ≡ oneStep reader s
 unfolding reader
 one-fix [] = one-nil 0

@@ -1,6 +1,7 @@
--- What the reader takes is an expression, of the relation.
-use mathlib.Core.Path.{_≡_, refl, sym, _∙_, ap, subst}
-use mathlib.Core.Bool.{Bool, true, false, _&&_, _||_, not}
+-- What the reader takes for an expression is one by the relation; and `Post`, what holds of a result if there is one, with its laws.
+-- Rests on PieceKinds.
+use mathlib.Core.Path.{_≡_, refl, sym, _∙_, ap}
+use mathlib.Core.Bool.{Bool, true, false, not}
 use mathlib.Core.List.{List, [], _∷_, _++_, append-assoc}
 use mathlib.Core.Option.{Option, some, none, Option·none-ne-some, Option·some-injective}
 use Prim.Native.Nat.{ℕ, zero, suc, _≤_, _<_, zero-le}
@@ -8,11 +9,11 @@ use native.Mathlib.Omega.{arith}
 use native.Mathlib.Nat.{le-refl}
 use native.Mathlib.Decide.{le-ind}
 use lib.ListN.{length}
-use lib.Dec.{leb, eqb, T, leb→le, nleb→lt, eqb-refl, lit<, lit≤}
-use Rattle.language.specs.Syntax.{pick, opt, Name, same, Expr, num, var, bin, un, and1, or1, idx, len, call, by-table, input, Exprs, no, and-then}
-use Rattle.grammar.specs.Text.{k-in, k-len, k-call, t-lp, t-rp, t-lb, t-rb, t-comma, okName, Number, Before, minus1, Ex, looser, one-e, num-e, var-e, brackets-e, index-e, len-e, call-e, table-e, in-e, Exs, none-es, one-es, more-es}
-use Rattle.grammar.specs.Parse.{Op, join, Tie, Piece, p-num, p-name, p-op, p-minus, p-before, p-lp, p-rp, p-lb, p-comma, p-len, p-call, p-in, p-other, look, opOf, After, a-call, a-index, a-none, after, Go, g-more, g-end, g-none, goOn, Res, fail, got, bind, eat, eatName, Fns, climb, behind, argsBy, argsOf, nextBy, nextArg, named, name, signed, start, oneStep, chainBy, chainStep, step, stop, upTo, reader}
-use Rattle.grammar.proofs.Look.{same-eq, Ties, ties-ex, ties-low, Means, look-means, tie-of}
+use lib.Dec.{leb, T, leb→le, nleb→lt, lit<, lit≤}
+use Rattle.language.specs.Syntax.{pick, Name, same, Expr, Exprs, and-then}
+use Rattle.grammar.specs.Text.{k-in, k-len, k-call, t-lp, t-rp, t-lb, t-rb, t-comma, is-name, Before, minus-before, IsExpr, looser, one-e, num-e, var-e, brackets-e, index-e, len-e, call-e, table-e, in-e, AreArgs, none-es, one-es, more-es}
+use Rattle.grammar.specs.Parse.{join, Tie, Piece, p-num, p-name, p-op, p-minus, p-before, p-lp, p-rp, p-lb, p-comma, p-len, p-call, p-in, p-other, look, opOf, After, a-call, a-index, a-none, after, Go, g-more, g-end, g-none, goOn, Res, fail, got, bind, eat, eatName, Fns, climb, behind, argsBy, argsOf, nextBy, nextArg, named, name, signed, start, oneStep, chainBy, chainStep, step, stop, upTo, reader}
+use Rattle.grammar.proofs.PieceKinds.{same-eq, Ties, ties-ex, ties-low, Means, look-means, tie-of}
 
 -- what holds of a result, if there is one
 pub data Post {A : Type 0} (Q : A → List Name → Type 0) : Res A → Type 0 where
@@ -34,9 +35,9 @@ pub post-eat : {C : Type 0} {Q : C → List Name → Type 0} (w : Name) (s : Lis
 post-eat w [] k f = none-p
 post-eat w (x ∷ r) k f = post-pick (same x w) (λ t. f r (ap (λ y. y ∷ r) (same-eq x w t))) (λ t. none-p)
 
-pub post-eatName : {C : Type 0} {Q : C → List Name → Type 0} (s : List Name) (k : Name → List Name → Res C) → ((x : Name) (r : List Name) → s ≡ x ∷ r → T (okName x) → Post Q (k x r)) → Post Q (eatName s k)
+pub post-eatName : {C : Type 0} {Q : C → List Name → Type 0} (s : List Name) (k : Name → List Name → Res C) → ((x : Name) (r : List Name) → s ≡ x ∷ r → T (is-name x) → Post Q (k x r)) → Post Q (eatName s k)
 post-eatName [] k f = none-p
-post-eatName (x ∷ r) k f = post-pick (okName x) (λ t. f x r refl t) (λ t. none-p)
+post-eatName (x ∷ r) k f = post-pick (is-name x) (λ t. f x r refl t) (λ t. none-p)
 
 -- the next piece is no operator that holds as tightly as n
 abbrev pub Ends : ℕ → List Name → Type 0
@@ -50,21 +51,21 @@ ends-8 n (w ∷ s) h = λ t e. let k = ties-low (tie-of w t e) in omega arith
 pub record Took (n : ℕ) (s : List Name) (e : Expr) (r : List Name) : Type 0 where
   pub used : List Name
   pub all : s ≡ used ++ r
-  pub is : Ex n used e
+  pub is : IsExpr n used e
 
 pub record Tooks (s : List Name) (es : Exprs) (r : List Name) : Type 0 where
   pub used : List Name
   pub all : s ≡ used ++ (t-rp ∷ r)
-  pub is : Exs used es
+  pub is : AreArgs used es
 
 pub record Sound (R : Fns) : Type 0 where
   pub one-s : (s : List Name) → Post (Took 8 s) (R .one s)
-  pub chain-s : (n m : ℕ) (a : Expr) (s₀ s : List Name) → Ex m s₀ a → n ≤ m → m ≤ 8 → Ends (suc m) s → Post (λ e r. Took n (s₀ ++ s) e r × Ends n r) (R .chain n a s)
-  pub args-s : (e : Expr) (s₀ s : List Name) → Ex 0 s₀ e → Post (λ es r. Tooks (s₀ ++ s) (and-then e es) r) (R .args s)
+  pub chain-s : (n m : ℕ) (a : Expr) (s₀ s : List Name) → IsExpr m s₀ a → n ≤ m → m ≤ 8 → Ends (suc m) s → Post (λ e r. Took n (s₀ ++ s) e r × Ends n r) (R .chain n a s)
+  pub args-s : (e : Expr) (s₀ s : List Name) → IsExpr 0 s₀ e → Post (λ es r. Tooks (s₀ ++ s) (and-then e es) r) (R .args s)
 
 -- looser, by as much as is wanted
-pub down : (m n : ℕ) {s : List Name} {e : Expr} → n ≤ m → m ≤ 9 → Ex m s e → Ex n s e
-down m n {s} {e} h = le-ind (λ i. i ≤ 9 → Ex i s e → Ex n s e) (λ k x. x) (λ i g ih k x. ih (omega arith) (looser k x)) m h
+pub down : (m n : ℕ) {s : List Name} {e : Expr} → n ≤ m → m ≤ 9 → IsExpr m s e → IsExpr n s e
+down m n {s} {e} h = le-ind (λ i. i ≤ 9 → IsExpr i s e → IsExpr n s e) (λ k x. x) (λ i g ih k x. ih (omega arith) (looser k x)) m h
 
 -- a closing piece behind what was taken
 pub closed : (s₁ : List Name) (w : Name) {s q r : List Name} → s ≡ s₁ ++ q → q ≡ w ∷ r → s ≡ (s₁ ++ (w ∷ [])) ++ r
@@ -114,7 +115,7 @@ module _ (R : Fns) (S : Sound R) where
   pub climb-sound : (n : ℕ) (s : List Name) → n ≤ 8 → Post (λ e r. Took n s e r × Ends n r) (climb R n s)
   climb-sound n s h = post-bind _ (S .one-s s) (λ e r k. rw (k .all) (S .chain-s n 8 e (k .used) r (k .is) h (le-refl _) (ends-8 9 r (lit≤ tt))))
 
-  behind-sound : (e : Expr) (s₀ r : List Name) → Ex 0 s₀ e → Post (Tooks (s₀ ++ r)) (behind R e r)
+  behind-sound : (e : Expr) (s₀ r : List Name) → IsExpr 0 s₀ e → Post (Tooks (s₀ ++ r)) (behind R e r)
   behind-sound e s₀ r x = post-bind _ (S .args-s e s₀ r x) (λ es r′ k. got-p k)
 
   first-sound : (s : List Name) → Post (Tooks s) (bind (climb R 0 s) (behind R))
@@ -129,7 +130,7 @@ module _ (R : Fns) (S : Sound R) where
   argsOf-sound [] = none-p
   argsOf-sound (w ∷ s) = argsBy-sound (goOn (look w)) w s (go-means (look w) w (look-means w))
 
-  nextBy-sound : (g : Go) (e : Expr) (s₀ : List Name) (w : Name) (s : List Name) → Ex 0 s₀ e → GoMeans g w → Post (λ es r. Tooks (s₀ ++ (w ∷ s)) (and-then e es) r) (nextBy R g s)
+  nextBy-sound : (g : Go) (e : Expr) (s₀ : List Name) (w : Name) (s : List Name) → IsExpr 0 s₀ e → GoMeans g w → Post (λ es r. Tooks (s₀ ++ (w ∷ s)) (and-then e es) r) (nextBy R g s)
   nextBy-sound g-more e s₀ w s x m =
       post-bind _ (climb-sound 0 s zero-le) (λ f r k. post-bind _ (S .args-s f (k .0 .used) r (k .0 .is)) (λ es r′ g.
       got-p (record {
@@ -140,19 +141,19 @@ module _ (R : Fns) (S : Sound R) where
   nextBy-sound g-end e s₀ w s x m = got-p (record { used = s₀; all = rw m; is = one-es x })
   nextBy-sound g-none e s₀ w s x m = none-p
 
-  nextArg-sound : (e : Expr) (s₀ s : List Name) → Ex 0 s₀ e → Post (λ es r. Tooks (s₀ ++ s) (and-then e es) r) (nextArg R s)
+  nextArg-sound : (e : Expr) (s₀ s : List Name) → IsExpr 0 s₀ e → Post (λ es r. Tooks (s₀ ++ s) (and-then e es) r) (nextArg R s)
   nextArg-sound e s₀ [] x = none-p
   nextArg-sound e s₀ (w ∷ s) x = nextBy-sound (goOn (look w)) e s₀ w s x (go-means (look w) w (look-means w))
 
   -- behind a name
-  named-sound : (a : After) (x w : Name) (s : List Name) → T (okName x) → AfterMeans a w → Post (Took 9 (x ∷ w ∷ s)) (named R x a (w ∷ s) s)
+  named-sound : (a : After) (x w : Name) (s : List Name) → T (is-name x) → AfterMeans a w → Post (Took 9 (x ∷ w ∷ s)) (named R x a (w ∷ s) s)
   named-sound a-call x w s h m = post-bind _ (argsOf-sound s) (λ es r k. got-p (record { used = x ∷ t-lp ∷ (k .used ++ (t-rp ∷ [])); all = rw m (ap (λ v. x ∷ t-lp ∷ v) (closed (k .used) t-rp (k .all) refl)); is = call-e h (k .is) }))
   named-sound a-index x w s h m =
       post-bind _ (climb-sound 0 s zero-le) (λ e r k. post-eat t-rb r _ (λ r′ q.
       got-p (record { used = x ∷ t-lb ∷ (k .0 .used ++ (t-rb ∷ [])); all = rw m (ap (λ v. x ∷ t-lb ∷ v) (closed (k .0 .used) t-rb (k .0 .all) q)); is = index-e h (k .0 .is) })))
   named-sound a-none x w s h m = got-p (record { used = x ∷ []; all = refl; is = var-e h })
 
-  name-sound : (x : Name) (s : List Name) → T (okName x) → Post (Took 9 (x ∷ s)) (name R x s)
+  name-sound : (x : Name) (s : List Name) → T (is-name x) → Post (Took 9 (x ∷ s)) (name R x s)
   name-sound x [] h = got-p (record { used = x ∷ []; all = refl; is = var-e h })
   name-sound x (w ∷ s) h = named-sound (after (look w)) x w s h (after-means (look w) w (look-means w))
 
@@ -167,7 +168,7 @@ module _ (R : Fns) (S : Sound R) where
   start-sound (p-num n) w s m = got-p (record { used = w ∷ []; all = refl; is = looser (lit< tt) (num-e m) })
   start-sound p-name w s m = nine (name-sound w s m)
   start-sound (p-op t) w s m = none-p
-  start-sound p-minus w s m = signed-sound 0 w s (rw m minus1)
+  start-sound p-minus w s m = signed-sound 0 w s (rw m minus-before)
   start-sound (p-before o) w s m = signed-sound o w s m
   start-sound p-lp w s m =
       nine (post-bind _ (climb-sound 0 s zero-le) (λ e r k. post-eat t-rp r _ (λ r′ q.
@@ -194,7 +195,7 @@ module _ (R : Fns) (S : Sound R) where
   oneStep-sound (w ∷ s) = start-sound (look w) w s (look-means w)
 
   -- a chain
-  chainBy-sound : (o : Option Tie) (n m : ℕ) (a : Expr) (s₀ : List Name) (w : Name) (s : List Name) → Ex m s₀ a → n ≤ m → m ≤ 8 → Ends (suc m) (w ∷ s) → opOf (look w) ≡ o
+  chainBy-sound : (o : Option Tie) (n m : ℕ) (a : Expr) (s₀ : List Name) (w : Name) (s : List Name) → IsExpr m s₀ a → n ≤ m → m ≤ 8 → Ends (suc m) (w ∷ s) → opOf (look w) ≡ o
       → Post (λ e r. Took n (s₀ ++ (w ∷ s)) e r × Ends n r) (chainBy R n a (w ∷ s) s o)
   chainBy-sound none n m a s₀ w s x h k b q = got-p (record { used = s₀; all = refl; is = down m n h (omega arith) x }, λ t e. absurd (Option·none-ne-some t (sym q ∙ e)))
   chainBy-sound (some t) n m a s₀ w s x h k b q =
@@ -214,14 +215,14 @@ module _ (R : Fns) (S : Sound R) where
             rw (Option·some-injective u t (sym e ∙ q)) lt,
       ))
 
-  chainStep-sound : (n m : ℕ) (a : Expr) (s₀ s : List Name) → Ex m s₀ a → n ≤ m → m ≤ 8 → Ends (suc m) s → Post (λ e r. Took n (s₀ ++ s) e r × Ends n r) (chainStep R n a s)
+  chainStep-sound : (n m : ℕ) (a : Expr) (s₀ s : List Name) → IsExpr m s₀ a → n ≤ m → m ≤ 8 → Ends (suc m) s → Post (λ e r. Took n (s₀ ++ s) e r × Ends n r) (chainStep R n a s)
   chainStep-sound n m a s₀ [] x h k b = got-p (record { used = s₀; all = refl; is = down m n h (omega arith) x }, tt)
   chainStep-sound n m a s₀ (w ∷ s) x h k b = chainBy-sound (opOf (look w)) n m a s₀ w s x h k b refl
 
   step-sound : Sound (step R)
   step-sound = record { one-s = oneStep-sound; chain-s = chainStep-sound; args-s = nextArg-sound }
 
-stop-sound : (n m : ℕ) (a : Expr) (s₀ s : List Name) → Ex m s₀ a → n ≤ m → m ≤ 8 → Ends (suc m) s → Post (λ e r. Took n (s₀ ++ s) e r × Ends n r) (stop n a s)
+stop-sound : (n m : ℕ) (a : Expr) (s₀ s : List Name) → IsExpr m s₀ a → n ≤ m → m ≤ 8 → Ends (suc m) s → Post (λ e r. Took n (s₀ ++ s) e r × Ends n r) (stop n a s)
 stop-sound n m a s₀ [] x h k b = got-p (record { used = s₀; all = refl; is = down m n h (omega arith) x }, tt)
 stop-sound n m a s₀ (w ∷ s) x h k b = none-p
 
