@@ -1,0 +1,5 @@
+pub mod Writing
+pub mod TreeNodes
+pub mod Having
+pub mod Naming
+pub mod NodeRows

@@ -1,0 +1,8 @@
+use mathlib.Core.Path.{sym}
+use lib.Dec.{lit<}
+use native.Mathlib.Omega.{arith}
+use Rattle.std.proofs.shelf.Lists.{getD-past}
+use Rattle.rows.proofs.read.at.Needs as need
+
+pub returns-else-i-row : need.returns-else-i-row
+returns-else-i-row c = record { is = sym (getD-past (c .args .row .now) (c .args .i) 0 (omega arith)); small = lit< tt }
