@@ -1,12 +1,12 @@
 -- The word of an instruction that fits is decoded as that instruction, so it does what the instruction does. It rests on the
 -- fields of a word (Fields) and on what any word does (Undo).
-use mathlib.Core.Path.{_≡_, refl, sym, ap, ap₂, _∙_}
-use mathlib.Core.Bool.{Bool, true, false, _&&_, _||_, not}
+use mathlib.Core.Path.{_≡_, refl, ap, ap₂, _∙_}
+use mathlib.Core.Bool.{Bool, _&&_}
 use Rattle.std.specs.declared.option.Option.{Option}
 use Rattle.std.specs.declared.option.Option.the-variants.{Some, None}
-use Prim.Native.Nat.{ℕ, _+_, _-_, _*_, _/_, _%_, _^_, _≤_, _<_}
+use Prim.Native.Nat.{ℕ, _+_, _-_, _*_, _/_, _%_, _<_}
 use native.Mathlib.Omega.{arith}
-use lib.Dec.{T, eqb, ltb, leb, lit<}
+use lib.Dec.{eqb, lit<}
 use Rattle.language.specs.Syntax.{pick}
 use Rattle.language.specs.Words.{signed}
 use Rattle.processor.specs.Machine.{Machine, f-op, f-rd, f-3, f-1, f-2, f-7, imm-i, imm-s, imm-b, imm-j, does}

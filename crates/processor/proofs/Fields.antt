@@ -1,12 +1,10 @@
 -- The fields of a word, and numbers of few bits with a sign.
-use mathlib.Core.Path.{_≡_, refl, sym, ap, ap₂, _∙_}
-use mathlib.Core.Bool.{Bool, true, false}
-use Prim.Native.Nat.{ℕ, _+_, _-_, _*_, _/_, _%_, _^_, _≤_, _<_}
+use mathlib.Core.Path.{_≡_, ap₂, _∙_}
+use Prim.Native.Nat.{ℕ, _+_, _-_, _*_, _/_, _%_, _<_}
 use native.Mathlib.Omega.{arith}
 use lib.Pow.{mod-pow-add}
-use lib.Dec.{eqb, ltb, leb}
-use Rattle.language.specs.Words.{all, signed}
-use Rattle.processor.specs.Machine.{f-op, f-rd, f-3, f-1, f-2, f-7, imm-i, imm-s, imm-b, imm-u, imm-j}
+use Rattle.language.specs.Words.{signed}
+use Rattle.processor.specs.Machine.{f-op, f-rd, f-3, f-1, f-2, f-7}
 use Rattle.processor.specs.Instr.{word, Near, Even}
 
 -- the six fields of a word that is put together of fields

@@ -1,13 +1,13 @@
 -- Loads and stores, as the code makes them.
-use mathlib.Core.Path.{_≡_, refl, sym, ap, subst, _∙_}
+use mathlib.Core.Path.{_≡_, sym, ap, subst, _∙_}
 use mathlib.Core.List.{List}
-use Prim.Native.Nat.{ℕ, _+_, _/_, _%_, _≤_, _<_}
+use Prim.Native.Nat.{ℕ, _/_, _<_}
 use lib.ListN.{length, getD, set}
 use Rattle.std.specs.declared.option.Option.{Option}
 use Rattle.std.specs.declared.option.Option.the-variants.{Some, None}
 use Rattle.language.specs.Syntax.{opt, put}
 use Rattle.language.specs.Words.{add}
-use Rattle.processor.specs.Machine.{Machine, Next, goes, faults, put-reg, stored, on, step, does}
+use Rattle.processor.specs.Machine.{Next, goes, faults, put-reg, step, does}
 use Rattle.processor.specs.Instr.{exec}
 use Rattle.processor.specs.Promise.{machine, reg-of, load-of, put-cpu, at-cpu, Located}
 use Rattle.processor.specs.declared.instr.Instr.{Instr}

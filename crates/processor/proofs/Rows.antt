@@ -1,16 +1,15 @@
 -- The lists of the definitions are those of the code.
-use mathlib.Core.Path.{_≡_, refl, sym, ap, _∙_}
+use mathlib.Core.Path.{_≡_, refl}
 use mathlib.Core.List.{List, [], _∷_}
-use mathlib.Core.Option.{Option, some, none}
-use Prim.Native.Nat.{ℕ, zero, suc, _+_, _/_, _%_, _≤_, _<_}
-use native.Mathlib.Omega.{arith}
+use mathlib.Core.Option.{some, none}
+use Prim.Native.Nat.{ℕ, zero, suc, _/_, _%_, _≤_, _<_}
 use native.Mathlib.Nat.{le-of-suc-le-suc, not-suc-le-zero}
 use borrow.Author.Tests.{eq-eqb, ne-eqb, eqb-true}
 use lib.Dec.{eqb}
 use mathlib.Core.Bool.{Bool, true, false}
 use Rattle.processor.specs.Promise.{reg-of, load-of}
-use lib.ListN.{length, getD, set}
-use Rattle.language.specs.Syntax.{nth, put, pick}
+use lib.ListN.{length, getD}
+use Rattle.language.specs.Syntax.{nth, pick}
 
 pub nth-some : {A : Type 0} (xs : List A) (n : ℕ) (d : A) → n < length xs → nth xs n ≡ some (getD xs n d)
 nth-some [] n d h = absurd (not-suc-le-zero h)

@@ -8,7 +8,6 @@ use native.Mathlib.Numerals.{add-one}
 use borrow.Author.Count.{below-more}
 use lib.ListN.{length, getD, take, drop, set, length-set}
 use lib.Seq.{take-suc-set, drop-cons, drop-length, drop-set-lt, drop-drop}
-use Rattle.std.specs.declared.option.Option.{Option}
 use Rattle.std.specs.declared.option.Option.the-variants.{Some, None}
 use Rattle.processor.specs.Machine.{Machine, Next, goes, halts, faults, then, step, after, reads}
 use Rattle.processor.specs.Promise.{machine, says, Stepped, Answered, Stops, Going, RunsAs}

@@ -1,21 +1,20 @@
 -- A word does what the instruction that it is does.
-use mathlib.Core.Path.{_≡_, refl, sym, ap, ap₂, subst, _∙_}
-use mathlib.Core.Bool.{Bool, true, false, not, _&&_, _||_}
-use mathlib.Core.Option.{some, none}
-use Prim.Native.Nat.{ℕ, _+_, _-_, _*_, _/_, _%_, _^_, _≤_, _<_}
+use mathlib.Core.Path.{_≡_, refl, sym, ap, subst, _∙_}
+use mathlib.Core.Bool.{Bool, true, false, _&&_}
+use Prim.Native.Nat.{ℕ, _-_, _/_, _%_}
 use native.Mathlib.Omega.{arith}
-use lib.Dec.{T, eqb, ltb, leb, eqb→eq}
+use lib.Dec.{T, eqb, eqb→eq}
 use Rattle.std.specs.declared.option.Option.{Option}
-use Rattle.std.specs.declared.option.Option.the-variants.{Some, None}
+use Rattle.std.specs.declared.option.Option.the-variants.{Some}
 use Rattle.language.specs.Syntax.{pick, opt}
-use Rattle.language.specs.Words.{add, sub, shr}
-use Rattle.processor.specs.Machine.{Machine, Next, goes, faults, reg, at-pc, on, put-reg, f-op, f-rd, f-3, f-1, f-2, f-7, imm-i, imm-s, imm-b, imm-u, imm-j, does, branch, muls, alu, sar, ok-i, ok-r}
+use Rattle.language.specs.Words.{add, shr}
+use Rattle.processor.specs.Machine.{Machine, Next, goes, faults, reg, at-pc, on, put-reg, f-op, f-rd, f-3, f-1, f-2, f-7, imm-i, imm-s, imm-b, does, branch, muls, alu, sar, ok-i, ok-r}
 use Rattle.processor.specs.Instr.{exec}
 use Rattle.processor.specs.Decode.{branch-of, prod-of, alu-of, imm-of, decode, runs}
 use Rattle.processor.specs.declared.instr.Alu.{Alu}
 use Rattle.processor.specs.declared.instr.Shift.{Shift}
 use Rattle.processor.specs.declared.instr.Instr.{Instr}
-use Rattle.processor.specs.declared.instr.Instr.the-variants.{Lui, Auipc, Jal, Jalr, Branch, Lw, Sw, OpImm, OpShift, Op, OpProd, Ecall}
+use Rattle.processor.specs.declared.instr.Instr.the-variants.{Jalr, Lw, Sw, OpShift, Op}
 
 -- one test, on both sides
 by : {A D : Type 0} (G : A → Next) (K : D → Next) (b : Bool) {u v : A} {p q : D} → G u ≡ K p → G v ≡ K q → G (pick b u v) ≡ K (pick b p q)

@@ -1,6 +1,6 @@
 -- The bit by bit operations are those of the code.
-use mathlib.Core.Path.{_≡_, refl, sym, ap, ap₂, subst, _∙_}
-use mathlib.Core.Bool.{Bool, true, false, _&&_, _||_, not}
+use mathlib.Core.Path.{_≡_, sym, ap, subst, _∙_}
+use mathlib.Core.Bool.{Bool, _&&_, _||_}
 use Prim.Native.Nat.{ℕ, zero, suc, _+_, _-_, _*_, _/_, _%_, _^_, _≤_, _<_, min, max, suc-le-suc}
 use native.Mathlib.Omega.{arith}
 use native.Mathlib.Nat.{mod-eq-of-lt, add-comm, le-trans}
@@ -11,7 +11,7 @@ use lib.Dec.{lit<}
 use borrow.Author.Tests.{lt-ltb, le-ltb}
 use Rattle.language.specs.Syntax.{pick}
 use Rattle.processor.specs.Machine.{sar}
-use lib.Bits.{or-shifted, and-mask, bitAnd, bitOr, bitXor, xor-lt, and-step, or-step, xor-step, and-zero-l, or-zero-l, xor-zero-l, differ}
+use lib.Bits.{or-shifted, and-mask, bitAnd, bitOr, bitXor, xor-lt, and-step, or-step, xor-step, and-zero-l, differ}
 use Rattle.processor.specs.Instr.{word, Fit}
 use Rattle.language.specs.Words.{bit, odd, bits, xor1, andW, orW, xorW, shl, shr}
 

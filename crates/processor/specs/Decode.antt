@@ -1,21 +1,17 @@
 -- Which instruction a word is, in the order in which the processor looks.
-use mathlib.Core.Bool.{Bool, true, false, not, _&&_, _||_}
-use Prim.Native.Nat.{ℕ, _+_, _-_, _*_, _/_, _%_, _^_, _≤_, _<_}
-use lib.Dec.{eqb, ltb, leb}
+use mathlib.Core.Bool.{Bool, true, _&&_, _||_}
+use Prim.Native.Nat.{ℕ, _-_, _/_, _%_, _<_}
+use lib.Dec.{eqb}
 use Rattle.std.specs.declared.option.Option.{Option}
 use Rattle.std.specs.declared.option.Option.the-variants.{Some, None}
 use Rattle.language.specs.Syntax.{pick}
-use Rattle.processor.specs.Machine.{Machine, Next, faults, f-op, f-rd, f-3, f-1, f-2, f-7, imm-i, imm-s, imm-b, imm-u, imm-j, ok-i, ok-r}
+use Rattle.processor.specs.Machine.{Machine, Next, faults, f-op, f-rd, f-3, f-1, f-2, f-7, imm-i, imm-s, imm-b, imm-j}
 use Rattle.processor.specs.Instr.{exec}
-use Rattle.processor.specs.declared.instr.Cond.{Cond}
 use Rattle.processor.specs.declared.instr.Cond.the-variants.{Beq, Bne, Blt, Bge, Bltu, Bgeu}
-use Rattle.processor.specs.declared.instr.Imm.{Imm}
 use Rattle.processor.specs.declared.instr.Imm.the-variants.{Addi, Slti, Sltiu, Xori, Ori, Andi}
-use Rattle.processor.specs.declared.instr.Shift.{Shift}
 use Rattle.processor.specs.declared.instr.Shift.the-variants.{Slli, Srli, Srai}
 use Rattle.processor.specs.declared.instr.Alu.{Alu}
 use Rattle.processor.specs.declared.instr.Alu.the-variants.{Add, Sub, Sll, Slt, Sltu, Xor, Srl, Sra, Or, And}
-use Rattle.processor.specs.declared.instr.Prod.{Prod}
 use Rattle.processor.specs.declared.instr.Prod.the-variants.{Mul, Mulhu, Divu, Remu}
 use Rattle.processor.specs.declared.instr.Instr.{Instr}
 use Rattle.processor.specs.declared.instr.Instr.the-variants.{Lui, Auipc, Jal, Jalr, Branch, Lw, Sw, OpImm, OpShift, Op, OpProd, Ecall}

@@ -1,13 +1,11 @@
 -- Instructions as data, as words, and what each does.
-use mathlib.Core.Bool.{Bool, true, false, not}
-use mathlib.Core.List.{List, [], _∷_, _++_}
-use mathlib.Core.Option.{Option, some, none}
-use Prim.Native.Nat.{ℕ, zero, suc, _+_, _-_, _*_, _/_, _%_, _^_, _≤_, _<_}
+use mathlib.Core.Bool.{Bool, not}
+use Prim.Native.Nat.{ℕ, _+_, _-_, _*_, _/_, _%_, _<_}
 use mathlib.Core.Path.{_≡_}
-use lib.Dec.{eqb, ltb, leb}
-use Rattle.language.specs.Syntax.{pick, opt, nth, put}
-use Rattle.language.specs.Words.{all, bit, andW, orW, xorW, add, sub, mul, shl, shr, up, signed}
-use Rattle.processor.specs.Machine.{Machine, Next, goes, halts, faults, reg, set-reg, at-pc, on, load, less-s, sar, stored, put-reg, envs, does}
+use lib.Dec.{eqb, ltb}
+use Rattle.language.specs.Syntax.{pick, opt}
+use Rattle.language.specs.Words.{all, bit, andW, orW, xorW, add, sub, mul, shl, shr}
+use Rattle.processor.specs.Machine.{Machine, Next, goes, faults, reg, set-reg, at-pc, on, load, less-s, sar, stored, put-reg, envs, does}
 use Rattle.processor.specs.declared.instr.Cond.{Cond}
 use Rattle.processor.specs.declared.instr.Cond.the-variants.{Beq, Bne, Blt, Bge, Bltu, Bgeu}
 use Rattle.processor.specs.declared.instr.Imm.{Imm}

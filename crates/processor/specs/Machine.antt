@@ -1,9 +1,9 @@
 -- The processor: 32-bit words, the base instructions and multiplication of the RISC-V unprivileged specification (RV32IM, without fences, counters and bytes), one step an instruction.
-use mathlib.Core.Bool.{Bool, true, false, _&&_, _||_, not}
+use mathlib.Core.Bool.{Bool, true, _&&_, _||_, not}
 use mathlib.Core.List.{List, [], _∷_, _++_}
 use mathlib.Core.Option.{Option, some, none}
-use Prim.Native.Nat.{ℕ, zero, suc, _+_, _-_, _*_, _/_, _%_, _^_}
-use lib.Dec.{eqb, ltb, leb}
+use Prim.Native.Nat.{ℕ, zero, suc, _+_, _-_, _*_, _/_, _%_}
+use lib.Dec.{eqb, ltb}
 use Rattle.language.specs.Syntax.{pick, opt, nth, put}
 use Rattle.language.specs.Words.{all, bit, andW, orW, xorW, add, sub, mul, shl, shr, up, signed}
 

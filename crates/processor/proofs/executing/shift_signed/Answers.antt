@@ -1,4 +1,3 @@
-use borrow.Author.Needs.{needs}
 use native.Mathlib.Omega.{arith}
 use Rattle.processor.proofs.WordBits.{sar-low, sar-high}
 use mathlib.Core.Path.{sym}

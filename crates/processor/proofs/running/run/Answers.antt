@@ -2,7 +2,7 @@ use native.Mathlib.Omega.{arith}
 use Prim.Native.Nat.{_+_}
 use mathlib.Core.List.{[]}
 use Rattle.processor.specs.Promise.{machine}
-use Rattle.processor.specs.declared.cpu.Event.the-variants.{Goes, Out, In}
+use Rattle.processor.specs.declared.cpu.Event.the-variants.{Out}
 use mathlib.Core.Path.{_∙_}
 use Rattle.processor.proofs.Turns.{stop-at, stop-last, stops-else, to, turn-goes, turn-out, turn-some, turn-none}
 use Rattle.processor.proofs.running.run.Needs as need
