@@ -11,7 +11,8 @@ use Rattle.language.specs.Syntax.{nth}
 use Rattle.language.specs.Words.{all, add}
 use Rattle.processor.specs.Machine.{Machine}
 
--- words of code and data, how many noughts follow them, the number of the word to begin at, and the numbers of the words that hold an address: the loader adds the loading address to each
+-- words of code and data, how many noughts follow them, the number of the word to begin at, and the numbers of the words that hold an address:
+-- the loader adds the loading address to each
 pub record Image : Type 0 where
   pub body : List ℕ
   pub noughts : ℕ
@@ -50,7 +51,9 @@ placed xs (n ∷ ns) b = placed (bump xs n b) ns b
 abbrev pub loaded : Image → ℕ → List ℕ → List ℕ
 loaded i a mem = take a mem ++ (placed (i .body) (i .moved) (4 * a) ++ (replicate (i .noughts) 0 ++ drop (a + size i) mem))
 
--- the board m can start: image i is loaded at word a of the memory mem, the stack's part goes from right behind the image up to word top, and ins is what there is to read. Register 2 has the end of the stack's part and register 3 where it begins, modulo 2^32; the other registers and the rest of the memory hold any words
+-- the board m can start: image i is loaded at word a of the memory mem, the stack's part goes from right behind the image up to word top, and
+-- ins is what there is to read. Register 2 has the end of the stack's part and register 3 where it begins, modulo 2^32; the other registers
+-- and the rest of the memory hold any words
 pub record Ready (i : Image) (a top : ℕ) (mem : List ℕ) (ins : List ℕ) (m : Machine) : Type 0 where
   pub fits : a + size i ≤ top
   pub in-mem : top ≤ length mem

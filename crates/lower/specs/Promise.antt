@@ -32,7 +32,9 @@ pub data Among (m : Mark) : List Mark → Type 0 where
 
 -- the stack of k words is too small for a call that the program makes, with as much put out and left to read as the board has
 abbrev pub Stack-short : Prog → List ℕ → ℕ → Machine → Type 0
-Stack-short p ins k z = (n : ℕ) × (s : State) × (m : Mark) × (state-of (means p ins n) ≡ some s) × Among m (s .calls) × (k < m .held) × (m .shown ≡ length (z .outs)) × (m .left ≡ length (z .ins))
+Stack-short p ins k z =
+    (n : ℕ) × (s : State) × (m : Mark) × (state-of (means p ins n) ≡ some s) × Among m (s .calls) × (k < m .held)
+    × (m .shown ≡ length (z .outs)) × (m .left ≡ length (z .ins))
 
 -- the board m, with the image i loaded at a, does what the program p means
 pub record Right (p : Prog) (i : Image) (a top : ℕ) (ins : List ℕ) (m : Machine) : Type 0 where
@@ -41,7 +43,8 @@ pub record Right (p : Prog) (i : Image) (a top : ℕ) (ins : List ℕ) (m : Mach
   -- what it has put out is what the program puts out, so far
   pub shows : (k : ℕ) → (n : ℕ) × Front (shown (after k m)) (outs-of (means p ins n))
   -- and it doesn't stay behind
-  pub follows : (n : ℕ) → (k : ℕ) × (Front (outs-of (means p ins n)) (shown (after k m)) ⊎ ((x : Machine) × (after k m ≡ halts 4 0 x) × Stack-short p ins (stack-words i a top) x))
+  pub follows : (n : ℕ) → (k : ℕ)
+      × (Front (outs-of (means p ins n)) (shown (after k m)) ⊎ ((x : Machine) × (after k m ≡ halts 4 0 x) × Stack-short p ins (stack-words i a top) x))
   -- it leaves alone what isn't its: below the image, and behind the stack's end
   pub outside : (k : ℕ) (x : Machine) → after k m ≡ goes x → (take a (x .mem) ≡ take a (m .mem)) × (drop top (x .mem) ≡ drop top (m .mem))
   -- it ends as the program ends, and only then
@@ -57,7 +60,11 @@ Runs-right p i = (a top : ℕ) (mem ins : List ℕ) (m : Machine) → Ready i a 
 
 -- what `build` answers for the text t, and how the words lent for the image go from o to o′
 abbrev pub BuiltSays : List ℕ → List ℕ → List ℕ → Built → Type 0
-BuiltSays t o o′ (Done n) = (p : Prog) × (i : Image) × Reads t p × (stage p ≤ landed) × Sound i × Runs-right p i × (n ≤ 4096 + 8 * length t) × (i .noughts ≤ 4096 + (all-words p + totals p)) × (length (row i) ≡ n) × (take n o′ ≡ row i) × (drop n o′ ≡ drop n o)
+-- the image i of the program p was written, n words long; it is sound, does what p means, and is within its bounds
+BuiltSays t o o′ (Done n) =
+    (p : Prog) × (i : Image) × Reads t p × (stage p ≤ landed) × Sound i × Runs-right p i
+    × (n ≤ 4096 + 8 * length t) × (i .noughts ≤ 4096 + (all-words p + totals p))
+    × (length (row i) ≡ n) × (take n o′ ≡ row i) × (drop n o′ ≡ drop n o)
 BuiltSays t o o′ ImageFull = (p : Prog) × Reads t p × (stage p ≤ landed) × (length o < 4096 + 8 * length t) × (o′ ≡ o)
 BuiltSays t o o′ (NotYet n) = (p : Prog) × Reads t p × (stage p ≡ n) × (landed < n) × (o′ ≡ o)
 BuiltSays t o o′ NoProgram = ((p : Prog) → Reads t p → ⊥) × (o′ ≡ o)

@@ -1,4 +1,5 @@
--- The processor: 32-bit words, the base instructions and multiplication of the RISC-V unprivileged specification (RV32IM, without fences, counters and bytes), one step an instruction.
+-- The processor: 32-bit words, the base instructions and multiplication of the RISC-V unprivileged specification (RV32IM, without fences,
+-- counters and bytes), one step an instruction.
 use mathlib.Core.Bool.{Bool, true, _&&_, _||_, not}
 use mathlib.Core.List.{List, [], _∷_, _++_}
 use mathlib.Core.Option.{Option, some, none}
@@ -80,14 +81,31 @@ sar x n = pick (ltb x 2147483648) (shr x n) (xorW 4294967295 (shr (xorW 42949672
 
 -- arithmetic: by the three bits of field 3, with the other form of 0 and 5
 abbrev pub alu : ℕ → Bool → ℕ → ℕ → ℕ
-alu f other x y = pick (eqb f 0) (pick other (sub x y) (add x y)) (pick (eqb f 1) (shl x (y % 32)) (pick (eqb f 2) (bit (less-s x y)) (pick (eqb f 3) (bit (ltb x y)) (pick (eqb f 4) (xorW x y) (pick (eqb f 5) (pick other (sar x (y % 32)) (shr x (y % 32))) (pick (eqb f 6) (orW x y) (andW x y)))))))
+alu f other x y =
+    pick (eqb f 0) (pick other (sub x y) (add x y))
+    (pick (eqb f 1) (shl x (y % 32))
+    (pick (eqb f 2) (bit (less-s x y))
+    (pick (eqb f 3) (bit (ltb x y))
+    (pick (eqb f 4) (xorW x y)
+    (pick (eqb f 5) (pick other (sar x (y % 32)) (shr x (y % 32)))
+    (pick (eqb f 6) (orW x y) (andW x y)))))))
 
 -- multiplication and division without a sign: 0 low word, 3 high word, 5 quotient, 7 rest
 abbrev pub muls : ℕ → ℕ → ℕ → Option ℕ
-muls f x y = pick (eqb f 0) (some (mul x y)) (pick (eqb f 3) (some (x * y / all)) (pick (eqb f 5) (some (pick (eqb y 0) 4294967295 (x / y))) (pick (eqb f 7) (some (pick (eqb y 0) x (x % y))) none)))
+muls f x y =
+    pick (eqb f 0) (some (mul x y))
+    (pick (eqb f 3) (some (x * y / all))
+    (pick (eqb f 5) (some (pick (eqb y 0) 4294967295 (x / y)))
+    (pick (eqb f 7) (some (pick (eqb y 0) x (x % y))) none)))
 
 abbrev pub branch : ℕ → ℕ → ℕ → Option Bool
-branch f x y = pick (eqb f 0) (some (eqb x y)) (pick (eqb f 1) (some (not (eqb x y))) (pick (eqb f 4) (some (less-s x y)) (pick (eqb f 5) (some (not (less-s x y))) (pick (eqb f 6) (some (ltb x y)) (pick (eqb f 7) (some (not (ltb x y))) none)))))
+branch f x y =
+    pick (eqb f 0) (some (eqb x y))
+    (pick (eqb f 1) (some (not (eqb x y)))
+    (pick (eqb f 4) (some (less-s x y))
+    (pick (eqb f 5) (some (not (less-s x y)))
+    (pick (eqb f 6) (some (ltb x y))
+    (pick (eqb f 7) (some (not (ltb x y))) none)))))
 
 abbrev pub stored : Machine → ℕ → ℕ → Next
 stored m a x = opt (load m a) faults (λ old. goes (on (record { regs = m .regs; pc = m .pc; mem = put (m .mem) (a / 4) x; ins = m .ins; outs = m .outs })))
@@ -101,9 +119,15 @@ reads m [] = goes (on (set-reg (set-reg m 10 0) 11 0))
 reads m (n ∷ ns) = goes (on (set-reg (set-reg (record { regs = m .regs; pc = m .pc; mem = m .mem; ins = ns; outs = m .outs }) 10 n) 11 1))
 
 abbrev pub envs : Machine → ℕ → Next
-envs m c = pick (eqb c 0) (halts 0 (reg m 10) m) (pick (eqb c 1) (goes (on (record { regs = m .regs; pc = m .pc; mem = m .mem; ins = m .ins; outs = m .outs ++ (reg m 10 ∷ []) }))) (pick (eqb c 2) (reads m (m .ins)) (pick (eqb c 3) (halts 3 (reg m 10) m) (pick (eqb c 4) (halts 4 0 m) faults))))
+envs m c =
+    pick (eqb c 0) (halts 0 (reg m 10) m)
+    (pick (eqb c 1) (goes (on (record { regs = m .regs; pc = m .pc; mem = m .mem; ins = m .ins; outs = m .outs ++ (reg m 10 ∷ []) })))
+    (pick (eqb c 2) (reads m (m .ins))
+    (pick (eqb c 3) (halts 3 (reg m 10) m)
+    (pick (eqb c 4) (halts 4 0 m) faults))))
 
--- what the manual keeps free is no instruction: with a number, shifts have noughts before their number, or 32 for the arithmetic one; without, field 7 is 0, or 32 for subtraction and the arithmetic shift
+-- what the manual keeps free is no instruction: with a number, shifts have noughts before their number, or 32 for the arithmetic one;
+-- without, field 7 is 0, or 32 for subtraction and the arithmetic shift
 abbrev pub ok-i : ℕ → Bool
 ok-i w = pick (eqb (f-3 w) 1) (eqb (f-7 w) 0) (pick (eqb (f-3 w) 5) (eqb (f-7 w) 0 || eqb (f-7 w) 32) true)
 

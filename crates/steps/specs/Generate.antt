@@ -286,10 +286,23 @@ shapes-of [] = []
 shapes-of (a ∷ as₁) = record { wide = a .wide; size = a .size } ∷ shapes-of as₁
 
 abbrev pub gen-fn : Prog → Name → Fn → MFn
-gen-fn p f g = record { params = words-of (slots-from (g .params) [] []); arrays = arrays-of (slots-from (g .params) [] []); vars = length (g .vars); own = shapes-of (g .arrs); places = words-of (slots-of g) + needB (scope p f (slots-of g)) (g .body); cost = cost g; code = gen-body (scope p f (slots-of g)) (g .body) (words-of (slots-of g)) }
+gen-fn p f g = record {
+  params = words-of (slots-from (g .params) [] []);
+  arrays = arrays-of (slots-from (g .params) [] []);
+  vars = length (g .vars);
+  own = shapes-of (g .arrs);
+  places = words-of (slots-of g) + needB (scope p f (slots-of g)) (g .body);
+  cost = cost g;
+  code = gen-body (scope p f (slots-of g)) (g .body) (words-of (slots-of g));
+}
 
 abbrev pub boot : Prog → MFn
 boot p = record { params = 0; arrays = 0; vars = 0; own = []; places = 1; cost = 0; code = genE (scope p (first-file p) []) (call w-main no) 0 0 ++ (s-ret 0 ∷ []) }
 
 abbrev pub gen-prog : Prog → MProg
-gen-prog p = record { funs = boot p ∷ sorted as-fn (λ t g. gen-fn p (t .file) g) (all-tops p 0 0); tables = sorted as-table (λ t fs. fn-nos p (t .file) fs) (all-tops p 0 0); words = all-words p; arrays = all-arrays p }
+gen-prog p = record {
+  funs = boot p ∷ sorted as-fn (λ t g. gen-fn p (t .file) g) (all-tops p 0 0);
+  tables = sorted as-table (λ t fs. fn-nos p (t .file) fs) (all-tops p 0 0);
+  words = all-words p;
+  arrays = all-arrays p;
+}

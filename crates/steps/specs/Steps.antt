@@ -125,11 +125,33 @@ upto n [] = []
 upto n (z ∷ zs) = n ∷ upto (n + 1) zs
 
 abbrev pub enters : MFn → ℕ → ℕ → List ℕ → List ℕ → MSt → MSt
-enters h g d xs as₁ m = record { act = record { fn = g; arrs = as₁ ++ upto (length (m .arrays)) (h .own) }; pc = 0; places = entry h xs; stack = record { act = m .act; pc = suc (m .pc); places = m .places; dest = d } ∷ m .stack; words = m .words; arrays = m .arrays ++ fresh (h .own); ins = m .ins; outs = m .outs; held = m .held + h .cost; calls = m .calls ++ (record { held = m .held + h .cost; shown = length (m .outs); left = length (m .ins) } ∷ []) }
+enters h g d xs as₁ m = record {
+  act = record { fn = g; arrs = as₁ ++ upto (length (m .arrays)) (h .own) };
+  pc = 0;
+  places = entry h xs;
+  stack = record { act = m .act; pc = suc (m .pc); places = m .places; dest = d } ∷ m .stack;
+  words = m .words;
+  arrays = m .arrays ++ fresh (h .own);
+  ins = m .ins;
+  outs = m .outs;
+  held = m .held + h .cost;
+  calls = m .calls ++ (record { held = m .held + h .cost; shown = length (m .outs); left = length (m .ins) } ∷ []);
+}
 
 abbrev pub leaves : MFn → ℕ → List Saved → MSt → MNext
 leaves g x [] m = m-ends x m
-leaves g x (f ∷ fs) m = m-goes (record { act = f .act; pc = f .pc; places = upd (f .places) (f .dest) x; stack = fs; words = m .words; arrays = take (length (m .arrays) - length (g .own)) (m .arrays); ins = m .ins; outs = m .outs; held = m .held - g .cost; calls = m .calls })
+leaves g x (f ∷ fs) m = m-goes (record {
+  act = f .act;
+  pc = f .pc;
+  places = upd (f .places) (f .dest) x;
+  stack = fs;
+  words = m .words;
+  arrays = take (length (m .arrays) - length (g .own)) (m .arrays);
+  ins = m .ins;
+  outs = m .outs;
+  held = m .held - g .cost;
+  calls = m .calls;
+})
 
 abbrev pub with-place : MSt → ℕ → (ℕ → MNext) → MNext
 with-place m a f = opt (m .places a) m-stuck f
@@ -139,7 +161,18 @@ with-array m o f = opt (arr-at (m .act .arrs) o) m-stuck (λ a. opt (nth (m .arr
 
 abbrev pub reads-in : ℕ → List ℕ → MSt → MNext
 reads-in d [] m = m-traps 3 m
-reads-in d (x ∷ xs) m = m-goes (record { act = m .act; pc = suc (m .pc); places = upd (m .places) d x; stack = m .stack; words = m .words; arrays = m .arrays; ins = xs; outs = m .outs; held = m .held; calls = m .calls })
+reads-in d (x ∷ xs) m = m-goes (record {
+  act = m .act;
+  pc = suc (m .pc);
+  places = upd (m .places) d x;
+  stack = m .stack;
+  words = m .words;
+  arrays = m .arrays;
+  ins = xs;
+  outs = m .outs;
+  held = m .held;
+  calls = m .calls;
+})
 
 abbrev pub exec : MProg → MFn → Step → MSt → MNext
 exec p g (s-num d n) m = m-goes (to m (suc (m .pc)) (upd (m .places) d n))
@@ -175,7 +208,18 @@ m-after p (suc k) m = m-then (m-step p m) (λ x. m-after p k x)
 
 -- how a run begins, and what it has shown
 abbrev pub m-begin : MProg → List ℕ → MSt
-m-begin p ins = record { act = record { fn = 0; arrs = [] }; pc = 0; places = λ i. none; stack = []; words = replicate (p .words) 0; arrays = p .arrays; ins = ins; outs = []; held = 0; calls = [] }
+m-begin p ins = record {
+  act = record { fn = 0; arrs = [] };
+  pc = 0;
+  places = λ i. none;
+  stack = [];
+  words = replicate (p .words) 0;
+  arrays = p .arrays;
+  ins = ins;
+  outs = [];
+  held = 0;
+  calls = [];
+}
 
 abbrev pub m-shown : MNext → List ℕ
 m-shown (m-goes m) = m .outs
