@@ -17,7 +17,7 @@ use Rattle.lower.proofs.RowPlaces.{width-is}
 
 -- what each form's own instructions take at most
 abbrev pub costs : Costs
-costs = record { c-num = 3; c-var = 4; c-bin = 8; c-un = 4; c-and = 7; c-or = 11; c-idx = 15; c-len = 3; c-call = 2; c-table = 17; c-arg = 1; c-input = 7; c-set = 4; c-store = 16; c-ex = 0; c-out = 3; c-if = 4; c-while = 4; c-ret = 6; c-break = 1; c-next = 1; c-fn = 19; c-param = 1; c-local = 1; c-own = 0; c-word = 0; c-arr = 0; c-data = 0; c-value = 1; c-byte = 1; c-tab = 0; c-entry = 1; c-use = 0; c-file = 0 }
+costs = record { c-num = 3; c-var = 4; c-bin = 8; c-un = 4; c-and = 7; c-or = 11; c-idx = 15; c-len = 3; c-call = 2; c-table = 17; c-arg = 1; c-input = 7; c-set = 4; c-store = 16; c-ex = 0; c-out = 3; c-if = 4; c-while = 6; c-ret = 6; c-break = 1; c-next = 1; c-fn = 19; c-param = 1; c-local = 1; c-own = 0; c-word = 0; c-arr = 0; c-data = 0; c-value = 1; c-byte = 1; c-tab = 0; c-entry = 1; c-use = 0; c-file = 0 }
 
 -- six words for each byte pay for the code, and each expression leaves two over
 pub costs-fair : Fair 6 2 costs
@@ -158,7 +158,7 @@ module _ (m : MProg) (f : MFn) where
       w-S (ex1 e) d brk nxt pc = omega (arith, w-E e d pc)
       w-S (out1 e) d brk nxt pc = simp widths-both (omega (arith, w-V e d pc))
       w-S (if1 e a b) d brk nxt pc = simp widths-both (omega (arith, w-E e d pc, w-B a d brk nxt (suc (pc + sizeE Γ e)), w-B b d brk nxt (suc (suc (pc + sizeE Γ e + sizeB Γ a)))))
-      w-S (while1 e b) d brk nxt pc = simp widths-both (omega (arith, w-E e d pc, w-B b d (pc + sizeS Γ (while1 e b)) pc (suc (pc + sizeE Γ e))))
+      w-S (while1 e b) d brk nxt pc = simp widths-both (omega (arith, w-E e d (pc + 2), w-B b d (pc + 1) (pc + 2) (suc (pc + 2 + sizeE Γ e))))
       w-S (ret1 e) d brk nxt pc = simp widths-both (omega (arith, w-V e d pc))
       w-S break1 d brk nxt pc = omega arith
       w-S next1 d brk nxt pc = omega arith

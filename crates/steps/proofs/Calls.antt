@@ -16,7 +16,7 @@ use Rattle.steps.proofs.Rules.{r-num, r-ret}
 use Rattle.steps.proofs.Variables.{Vars, Keeps, upd-same, upd-other, wides, wides-++, wides-take, wides-length, take-front, nth-left, nums, arrs-of, kinds, names-at, shapes-length}
 use Rattle.steps.proofs.Match.{Env, Fun, wB, WfB, Pre, Stays, QC, q-call, QS, q-fine, q-broke, q-next, q-gives, Sim, SimE, SimEs, SimS, SimB, SimC, Linked, Compiled, Called}
 use Rattle.steps.proofs.Expressions.{sim-num, sim-var, sim-bin, sim-un, sim-and, sim-or, sim-call, sim-table, sim-in, sim-idx, sim-len, sim-no, sim-word-arg, sim-arr-arg}
-use Rattle.steps.proofs.Statements.{sim-set, sim-store, sim-ex, sim-out, sim-if, sim-while, sim-ret, sim-break, sim-next, sim-end, sim-seq, len-B, behind-B, front-B}
+use Rattle.steps.proofs.Statements.{sim-set, sim-store, sim-ex, sim-out, sim-if, sim-while, sim-head, sim-ret, sim-break, sim-next, sim-end, sim-seq, len-B, behind-B, front-B}
 
 module _ (v : Env) (n : ℕ) (ih : Sim v n) (c : Fun) (g : Fn) (vs : List Value) (fr : Saved) (st : List Saved) (s : State) (cm : Called v g c vs s) where
   pub sim-body : Out (v .P) (v .W) (QC fr st s) (suc n - suc (wB (g .body))) (mk (c .j) 0 (entry (c .G) (nums vs)) (fr ∷ st) (enter g vs s)) (run (v .p) (suc n) (c .file) (t-call g vs) s)
@@ -87,7 +87,8 @@ sim v L zero = record {
   e = λ c e d pc ps st s pre w at. spentd (omega arith);
   es = λ c es ks d pc ps st s vs pre w at. spentd (omega arith);
   s = λ c a l d brk nxt pc ps st s pre w at. spentd (omega arith);
+  w = λ c e b l d brk nxt pc ps st s pre w at. spentd (omega arith);
   b = λ c b l d brk nxt pc ps st s pre w at. spentd (omega arith);
   c = λ z c g vs fr st s cm. absurd (omega arith);
 }
-sim v L (suc n) = let ih = sim v L n in record { e = simE v L n ih; es = simEs v n ih; s = simS v L n ih; b = simB v n ih; c = λ z. sim-body v n ih }
+sim v L (suc n) = let ih = sim v L n in record { e = simE v L n ih; es = simEs v n ih; s = simS v L n ih; w = λ c e b l d brk nxt pc ps st s pre w at. sim-head v n ih c l d brk nxt pc ps st s pre (L .some-step) e b w at; b = simB v n ih; c = λ z. sim-body v n ih }

@@ -205,7 +205,7 @@ module _ (v : Env) (L : Linked v) (c : Fun) (ha : arrays-of (c .Γ .slots) ≤ c
     fits-S (ex1 e) l d brk nxt pc w r h q bk nx = fits-E e d pc w r h q
     fits-S (out1 e) l d brk nxt pc w r h q bk nx = let z = need-E e (c .Γ) in let y = at-le e d w r in each-++ _ (genV (c .Γ) e d pc) _ (fits-V e d pc w r h (omega arith)) (omega arith, tt)
     fits-S (if1 e a b) l d brk nxt pc w r h q bk nx = let z = need-E e (c .Γ) in each-++ _ (genE (c .Γ) e d pc) _ (fits-E e d pc (w .0) r (omega arith) (omega arith)) ((omega arith, omega arith), each-++ _ (genB (c .Γ) a d brk nxt _) _ (fits-B a l d brk nxt _ (w .1) r (omega arith) (omega arith) bk nx) (q, fits-B b l d brk nxt _ (w .2) r (omega arith) (omega arith) bk nx))
-    fits-S (while1 e b) l d brk nxt pc w r h q bk nx = let z = need-E e (c .Γ) in each-++ _ (genE (c .Γ) e d pc) _ (fits-E e d pc (w .0) r (omega arith) (omega arith)) ((omega arith, q), each-++ _ (genB (c .Γ) b d _ pc _) _ (fits-B b true d _ pc _ (w .1) r (omega arith) (omega arith) q (omega arith)) (omega arith, tt))
+    fits-S (while1 e b) l d brk nxt pc w r h q bk nx = let z = need-E e (c .Γ) in (omega arith, (q, each-++ _ (genE (c .Γ) e d (pc + 2)) _ (fits-E e d (pc + 2) (w .0) r (omega arith) (omega arith)) ((omega arith, omega arith), each-++ _ (genB (c .Γ) b d (pc + 1) (pc + 2) _) _ (fits-B b true d (pc + 1) (pc + 2) _ (w .1) r (omega arith) (omega arith) (omega arith) (omega arith)) (omega arith, tt))))
     fits-S (ret1 e) l d brk nxt pc w r h q bk nx = let z = need-E e (c .Γ) in let y = at-le e d w r in each-++ _ (genV (c .Γ) e d pc) _ (fits-V e d pc w r h (omega arith)) (omega arith, tt)
     fits-S break1 l d brk nxt pc w r h q bk nx = (bk, tt)
     fits-S next1 l d brk nxt pc w r h q bk nx = (nx, tt)

@@ -244,6 +244,10 @@ SimEs v n = (c : Fun) (es : Exprs) (ks : List Kind) (d pc : ℕ) (ps : Places) (
 abbrev pub SimS : Env → ℕ → Type 0
 SimS v n = (c : Fun) (a : Stmt) (l : Bool) (d brk nxt pc : ℕ) (ps : Places) (st : List Saved) (s : State) → Pre v c d ps s → WfS v c l a → At (c .G .code) pc (genS (c .Γ) a d brk nxt pc) → Out (v .P) (v .W) (QS v c l d (pc + sizeS (c .Γ) a) brk nxt st s) (n - wS a) (mk (c .j) pc ps st s) (run (v .p) n (c .file) (t-s a) s)
 
+-- a loop from its head on
+abbrev pub SimW : Env → ℕ → Type 0
+SimW v n = (c : Fun) (e : Expr) (b : Block) (l : Bool) (d brk nxt pc : ℕ) (ps : Places) (st : List Saved) (s : State) → Pre v c d ps s → WfS v c l (while1 e b) → At (c .G .code) pc (genS (c .Γ) (while1 e b) d brk nxt pc) → Out (v .P) (v .W) (QS v c l d (pc + sizeS (c .Γ) (while1 e b)) brk nxt st s) (n - wS (while1 e b)) (mk (c .j) (pc + 2) ps st s) (run (v .p) n (c .file) (t-s (while1 e b)) s)
+
 abbrev pub SimB : Env → ℕ → Type 0
 SimB v n = (c : Fun) (b : Block) (l : Bool) (d brk nxt pc : ℕ) (ps : Places) (st : List Saved) (s : State) → Pre v c d ps s → WfB v c l b → At (c .G .code) pc (genB (c .Γ) b d brk nxt pc) → Out (v .P) (v .W) (QS v c l d (pc + sizeB (c .Γ) b) brk nxt st s) (n - wB b) (mk (c .j) pc ps st s) (run (v .p) n (c .file) (t-b b) s)
 
@@ -263,5 +267,6 @@ pub record Sim (v : Env) (n : ℕ) : Type 0 where
   pub e : SimE v n
   pub es : SimEs v n
   pub s : SimS v n
+  pub w : SimW v n
   pub b : SimB v n
   pub c : SimC v n

@@ -152,20 +152,28 @@ module _ (v : Env) (n : ℕ) (ih : Sim v n) (c : Fun) (l : Bool) (d brk nxt pc :
           on-through _ _ (λ r. r) id-passes y (less _ (omega arith) (ih .b c a l d brk nxt _ ps1 st s1 p1 (w .1) (front-B _ _ a d brk nxt _ _ (behind _ _ e d pc _ at .1)))) λ s2 ps2 p2 y2.
           r-jump (pre .here) (behind-B _ _ a d brk nxt _ _ (behind _ _ e d pc _ at .1) .0) (s-fine _ _ refl p2 y2)
 
-  pub sim-while : 1 ≤ v .W → (e : Expr) (b : Block) → Goal (while1 e b)
-  sim-while lw e b w at =
-      on-value _ (less _ (omega arith) (ih .e c e d pc ps st s pre (w .0) (front _ _ e d pc _ at))) λ x s1 ps1 y k h.
-      r-jz (pre .here) (behind _ _ e d pc _ at .0) h (next x s1 ps1 (pre-on d ps1 pre y k (omega arith)) (y .held) (eqb x 0))
+  pub sim-head : 1 ≤ v .W → (e : Expr) (b : Block) → WfS v c l (while1 e b) → At (c .G .code) pc (genS (c .Γ) (while1 e b) d brk nxt pc) → Out (v .P) (v .W) (QS v c l d (pc + sizeS (c .Γ) (while1 e b)) brk nxt st s) (suc n - wS (while1 e b)) (mk (c .j) (pc + 2) ps st s) (run (v .p) (suc n) (c .file) (t-s (while1 e b)) s)
+  sim-head lw e b w at =
+      on-value _ (less _ (omega arith) (ih .e c e d (pc + 2) ps st s pre (w .0) (front _ _ e d (pc + 2) _ at2))) λ x s1 ps1 y k h.
+      r-jz (pre .here) (behind _ _ e d (pc + 2) _ at2 .0) h (next x s1 ps1 (pre-on d ps1 pre y k (omega arith)) (y .held) (eqb x 0))
     where
-      again : (m1 : Cfg) (r1 : Result) (s1 : State) → s1 .held ≡ s .held → QS v c true d (suc (pc + sizeE (c .Γ) e) + sizeB (c .Γ) b) (pc + sizeS (c .Γ) (while1 e b)) pc st s1 m1 r1 → Out (v .P) (v .W) (QS v c l d (pc + sizeS (c .Γ) (while1 e b)) brk nxt st s) ((suc n - wS (while1 e b)) - v .W) m1 (on-round r1 (λ s2. run (v .p) n (c .file) (t-s (while1 e b)) s2))
-      again m1 r1 s1 y (q-fine s2 ps2 p2 z) = r-jump (pre .here) (behind-B _ _ b d _ _ _ _ (behind _ _ e d pc _ at .1) .0) (s-later _ _ refl (z ∙ y) (less _ (omega arith) (ih .s c (while1 e b) l d brk nxt pc ps2 st s2 p2 w at)))
-      again m1 r1 s1 y (q-broke s2 ps2 a p2 z) = s-fine _ _ refl p2 (z ∙ y)
-      again m1 r1 s1 y (q-next s2 ps2 a p2 z) = s-later _ _ refl (z ∙ y) (less _ (omega arith) (ih .s c (while1 e b) l d brk nxt pc ps2 st s2 p2 w at))
+      at2 : At (c .G .code) (pc + 2) (genE (c .Γ) e d (pc + 2) ++ (s-jz d (pc + 1) ∷ (genB (c .Γ) b d (pc + 1) (pc + 2) (suc (pc + 2 + sizeE (c .Γ) e)) ++ (s-jump (pc + 2) ∷ []))))
+      at2 = let z : suc (suc pc) ≡ pc + 2 = omega arith in subst (λ i. At (c .G .code) i (genE (c .Γ) e d (pc + 2) ++ (s-jz d (pc + 1) ∷ (genB (c .Γ) b d (pc + 1) (pc + 2) (suc (pc + 2 + sizeE (c .Γ) e)) ++ (s-jump (pc + 2) ∷ []))))) z (at .1 .1)
+      -- the step before the head leads to the end
+      out : nth (c .G .code) (pc + 1) ≡ some (s-jump (pc + sizeS (c .Γ) (while1 e b)))
+      out = let z : suc pc ≡ pc + 1 = omega arith in subst (λ i. nth (c .G .code) i ≡ some (s-jump (pc + sizeS (c .Γ) (while1 e b)))) z (at .1 .0)
+      again : (m1 : Cfg) (r1 : Result) (s1 : State) → s1 .held ≡ s .held → QS v c true d (suc (pc + 2 + sizeE (c .Γ) e) + sizeB (c .Γ) b) (pc + 1) (pc + 2) st s1 m1 r1 → Out (v .P) (v .W) (QS v c l d (pc + sizeS (c .Γ) (while1 e b)) brk nxt st s) ((suc n - wS (while1 e b)) - v .W) m1 (on-round r1 (λ s2. run (v .p) n (c .file) (t-s (while1 e b)) s2))
+      again m1 r1 s1 y (q-fine s2 ps2 p2 z) = r-jump (pre .here) (behind-B _ _ b d _ _ _ _ (behind _ _ e d (pc + 2) _ at2 .1) .0) (s-later _ _ refl (z ∙ y) (less _ (omega arith) (ih .w c e b l d brk nxt pc ps2 st s2 p2 w at)))
+      again m1 r1 s1 y (q-broke s2 ps2 a p2 z) = r-jump (pre .here) out (s-fine _ _ refl p2 (z ∙ y))
+      again m1 r1 s1 y (q-next s2 ps2 a p2 z) = s-later _ _ refl (z ∙ y) (less _ (omega arith) (ih .w c e b l d brk nxt pc ps2 st s2 p2 w at))
       again m1 r1 s1 y (q-gives x a i s2 ps2 hc hx p2 z) = done (q-gives x a i s2 ps2 hc hx p2 (z ∙ y))
 
-      next : (x : ℕ) (s1 : State) (ps1 : Places) → Pre v c d ps1 s1 → s1 .held ≡ s .held → (t : Bool) → Out (v .P) (v .W) (QS v c l d (pc + sizeS (c .Γ) (while1 e b)) brk nxt st s) ((suc n - wS (while1 e b)) - v .W) (mk (c .j) (pick t (pc + sizeS (c .Γ) (while1 e b)) (suc (pc + sizeE (c .Γ) e))) ps1 st s1) (either t fine (λ s0. on-round (run (v .p) n (c .file) (t-b b) s0) (λ s2. run (v .p) n (c .file) (t-s (while1 e b)) s2)) s1)
-      next x s1 ps1 p1 y true = s-fine _ _ refl p1 y
-      next x s1 ps1 p1 y false = bind (λ r. on-round r (λ s2. run (v .p) n (c .file) (t-s (while1 e b)) s2)) (record { traps = λ c s. refl; spents = λ s. refl }) (λ m1 r1 q. again m1 r1 s1 y q) (less _ (omega arith) (ih .b c b true d _ _ _ ps1 st s1 p1 (w .1) (front-B _ _ b d _ _ _ _ (behind _ _ e d pc _ at .1))))
+      next : (x : ℕ) (s1 : State) (ps1 : Places) → Pre v c d ps1 s1 → s1 .held ≡ s .held → (t : Bool) → Out (v .P) (v .W) (QS v c l d (pc + sizeS (c .Γ) (while1 e b)) brk nxt st s) ((suc n - wS (while1 e b)) - v .W) (mk (c .j) (pick t (pc + 1) (suc (pc + 2 + sizeE (c .Γ) e))) ps1 st s1) (either t fine (λ s0. on-round (run (v .p) n (c .file) (t-b b) s0) (λ s2. run (v .p) n (c .file) (t-s (while1 e b)) s2)) s1)
+      next x s1 ps1 p1 y true = r-jump (pre .here) out (s-fine _ _ refl p1 y)
+      next x s1 ps1 p1 y false = bind (λ r. on-round r (λ s2. run (v .p) n (c .file) (t-s (while1 e b)) s2)) (record { traps = λ c s. refl; spents = λ s. refl }) (λ m1 r1 q. again m1 r1 s1 y q) (less _ (omega arith) (ih .b c b true d _ _ _ ps1 st s1 p1 (w .1) (front-B _ _ b d _ _ _ _ (behind _ _ e d (pc + 2) _ at2 .1))))
+
+  pub sim-while : 1 ≤ v .W → (e : Expr) (b : Block) → Goal (while1 e b)
+  sim-while lw e b w at = r-jump (pre .here) (at .0) (less _ (omega arith) (sim-head lw e b w at))
 
   abbrev GoalB : Block → Type 0
   GoalB b = WfB v c l b → At (c .G .code) pc (genB (c .Γ) b d brk nxt pc) → Out (v .P) (v .W) (QS v c l d (pc + sizeB (c .Γ) b) brk nxt st s) (suc n - wB b) (mk (c .j) pc ps st s) (run (v .p) (suc n) (c .file) (t-b b) s)

@@ -139,7 +139,7 @@ abbrev mutual
   sizeS Γ (ex1 e) = sizeE Γ e
   sizeS Γ (out1 e) = suc (sizeV Γ e)
   sizeS Γ (if1 e b c) = suc (suc (sizeE Γ e + (sizeB Γ b + sizeB Γ c)))
-  sizeS Γ (while1 e b) = suc (suc (sizeE Γ e + sizeB Γ b))
+  sizeS Γ (while1 e b) = suc (suc (suc (suc (sizeE Γ e + sizeB Γ b))))
   sizeS Γ (ret1 e) = suc (sizeV Γ e)
   sizeS Γ break1 = 1
   sizeS Γ next1 = 1
@@ -227,7 +227,8 @@ abbrev mutual
   genS Γ (ex1 e) d brk nxt pc = genE Γ e d pc
   genS Γ (out1 e) d brk nxt pc = genV Γ e d pc ++ (s-out (at-place Γ e d) ∷ [])
   genS Γ (if1 e b c) d brk nxt pc = genE Γ e d pc ++ (s-jz d (suc (suc (pc + sizeE Γ e + sizeB Γ b))) ∷ (genB Γ b d brk nxt (suc (pc + sizeE Γ e)) ++ (s-jump (pc + sizeS Γ (if1 e b c)) ∷ genB Γ c d brk nxt (suc (suc (pc + sizeE Γ e + sizeB Γ b))))))
-  genS Γ (while1 e b) d brk nxt pc = genE Γ e d pc ++ (s-jz d (pc + sizeS Γ (while1 e b)) ∷ (genB Γ b d (pc + sizeS Γ (while1 e b)) pc (suc (pc + sizeE Γ e)) ++ (s-jump pc ∷ [])))
+  -- the step before the loop's head leads to its end, and all that leave the loop go there: only that one jump forward waits for its target
+  genS Γ (while1 e b) d brk nxt pc = s-jump (pc + 2) ∷ s-jump (pc + sizeS Γ (while1 e b)) ∷ (genE Γ e d (pc + 2) ++ (s-jz d (pc + 1) ∷ (genB Γ b d (pc + 1) (pc + 2) (suc (pc + 2 + sizeE Γ e)) ++ (s-jump (pc + 2) ∷ []))))
   genS Γ (ret1 e) d brk nxt pc = genV Γ e d pc ++ (s-ret (at-place Γ e d) ∷ [])
   genS Γ break1 d brk nxt pc = s-jump brk ∷ []
   genS Γ next1 d brk nxt pc = s-jump nxt ∷ []
