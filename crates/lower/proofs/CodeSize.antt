@@ -141,7 +141,7 @@ module _ (m : MProg) (f : MFn) where
       w-E (idx x e) d pc = simp widths-both (omega (arith, in-place e d pc (w-E e d pc), w-idx d (the-arr Γ x) (at-place Γ e d)))
       w-E (len x) d pc = omega (arith, w-len d (the-arr Γ x))
       w-E (call x es) d pc = simp widths-both (omega (arith, w-Es es d pc, w-call d (Γ .fn-no x) d (count Γ es) (opnds Γ es)))
-      w-E (by-table x e es) d pc = simp widths-both (omega (arith, w-E e d pc, w-Es es (suc d) (pc + sizeE Γ e), w-table d d (Γ .table-no x) (suc d) (count Γ es) (opnds Γ es)))
+      w-E (by-table x e es) d pc = simp widths-both (omega (arith, in-place e d pc (w-E e d pc), w-Es es (suc d) (pc + sizeV Γ e), w-table d (at-place Γ e d) (Γ .table-no x) (suc d) (count Γ es) (opnds Γ es)))
       w-E input d pc = omega arith
 
       w-Es : (es : Exprs) (d pc : ℕ) → widths (genEs Γ es d pc) + count Γ es ≤ wEs costs es

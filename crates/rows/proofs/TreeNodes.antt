@@ -26,7 +26,7 @@ mutual
   nodes-E a (idx x e) ns = nodes-E false e (n-idx x ∷ ns) ∙ simp append-assoc refl
   nodes-E a (len x) ns = refl
   nodes-E a (call x es) ns = nodes-Es es (n-call (count es) x ∷ ns) ∙ simp append-assoc refl
-  nodes-E a (by-table x e es) ns = nodes-E true e (nodesEs es (n-by (count es) x ∷ ns)) ∙ behind (expr-row true e) (nodes-Es es (n-by (count es) x ∷ ns)) ∙ simp append-assoc refl
+  nodes-E a (by-table x e es) ns = nodes-E false e (nodesEs es (n-by (count es) x ∷ ns)) ∙ behind (expr-row false e) (nodes-Es es (n-by (count es) x ∷ ns)) ∙ simp append-assoc refl
   nodes-E a input ns = refl
 
   nodes-Es : (es : Exprs) (ns : List Node) → nodes-row (nodesEs es ns) ≡ args-row es ++ nodes-row ns

@@ -94,7 +94,7 @@ abbrev mutual
   nodesE a (idx x e) ns = nodesE false e (n-idx x ∷ ns)
   nodesE a (len x) ns = n-len x ∷ ns
   nodesE a (call x es) ns = nodesEs es (n-call (count es) x ∷ ns)
-  nodesE a (by-table x e es) ns = nodesE true e (nodesEs es (n-by (count es) x ∷ ns))
+  nodesE a (by-table x e es) ns = nodesE false e (nodesEs es (n-by (count es) x ∷ ns))
   nodesE a input ns = n-in ∷ ns
 
   pub nodesEs : Exprs → List Node → List Node
@@ -133,7 +133,7 @@ unfoldable mutual
   expr-row a (idx x e) = expr-row false e ++ (7 ∷ named x)
   expr-row a (len x) = 8 ∷ named x
   expr-row a (call x es) = args-row es ++ (9 ∷ count es ∷ named x)
-  expr-row a (by-table x e es) = expr-row true e ++ (args-row es ++ (10 ∷ count es ∷ named x))
+  expr-row a (by-table x e es) = expr-row false e ++ (args-row es ++ (10 ∷ count es ∷ named x))
   expr-row a input = 11 ∷ []
 
   pub args-row : Exprs → List ℕ

@@ -38,7 +38,7 @@ mutual
   len-E (idx x e) Γ d pc = let z = len-un (own-at Γ e) (genE Γ e d pc) _ (len-E e Γ d pc) in simp (length-append, z) (omega arith)
   len-E (len x) Γ d pc = refl
   len-E (call x es) Γ d pc = simp (length-append, len-Es es) (omega arith)
-  len-E (by-table x e es) Γ d pc = simp (length-append, len-E e, len-Es es) (omega arith)
+  len-E (by-table x e es) Γ d pc = let z = len-un (own-at Γ e) (genE Γ e d pc) _ (len-E e Γ d pc) in simp (length-append, z, len-Es es) (omega arith)
   len-E input Γ d pc = refl
 
   pub len-Es : (es : Exprs) (Γ : Scope) (d pc : ℕ) → length (genEs Γ es d pc) ≡ sizeEs Γ es
@@ -253,21 +253,24 @@ module _ (v : Env) (L : Linked v) (c : Fun) (d pc : ℕ) (ps : Places) (st : Lis
   pub sim-table : (x : Name) (e : Expr) (es : Exprs) → WfE v c (by-table x e es) → At (c .G .code) pc (genE (c .Γ) (by-table x e es) d pc) → (n : ℕ) → Sim v n → Out (v .P) (v .W) (QE (c .j) (pc + sizeE (c .Γ) (by-table x e es)) d ps st s) (suc n - wE (by-table x e es)) (mk (c .j) pc ps st s) (run (v .p) (suc n) (c .file) (t-e (by-table x e es)) s)
   sim-table x e es w at zero ih = spentd (omega arith)
   sim-table x e es w at (suc n) ih =
-      on-value _ (less _ (omega arith) (ih .e c e d pc ps st s pre (w .2) (front _ _ e d pc _ at))) λ i s1 ps1 y k h.
-      on-values _ (less _ (omega arith) (ih .es c es (w .0) (suc d) (pc + sizeE (c .Γ) e) ps1 st s1 [] (pre-on (suc d) ps1 pre y k (omega arith)) (w .3) (at-left _ _ (genEs (c .Γ) es (suc d) _) _ (behind _ _ e d pc _ at)))) λ us s2 ps2 ha y2 k2 hx hs.
-      rw (w .1 .2, w .1 .3) (last i us s2 ps2 ha (stays-trans y y2) (keeps-on (omega arith) k k2) (k2 d (omega arith) ∙ h) hx hs (nth (w .1 .1) i) refl)
+      on-operand v (suc n) ih c d pc ps st s pre _ e _ (omega arith) (w .2) (front-V (c .G .code) (c .Γ) e d pc rest at) λ i s1 ps1 y k h l.
+      on-values _ (less _ (omega arith) (ih .es c es (w .0) (suc d) (pc + sizeV (c .Γ) e) ps1 st s1 [] (pre-on (suc d) ps1 pre y k (omega arith)) (w .3) (at-left _ _ (genEs (c .Γ) es (suc d) _) _ (behind-V (c .G .code) (c .Γ) e d pc rest at)))) λ us s2 ps2 ha y2 k2 hx hs.
+      rw (w .1 .2, w .1 .3) (last i us s2 ps2 ha (stays-trans y y2) (keeps-on (omega arith) k k2) (k2 (at-place (c .Γ) e d) l ∙ h) hx hs (nth (w .1 .1) i) refl)
     where
-      code : nth (c .G .code) ((pc + sizeE (c .Γ) e) + sizeEs (c .Γ) es) ≡ some (s-table d d (c .Γ .table-no x) (suc d) (count (c .Γ) es) (opnds (c .Γ) es))
-      code = at-right _ (pc + sizeE (c .Γ) e) (genEs (c .Γ) es (suc d) (pc + sizeE (c .Γ) e)) _ (sizeEs (c .Γ) es) (len-Es es (c .Γ) (suc d) (pc + sizeE (c .Γ) e)) (behind _ _ e d pc _ at) .0
+      rest : List Step
+      rest = genEs (c .Γ) es (suc d) (pc + sizeV (c .Γ) e) ++ (s-table d (at-place (c .Γ) e d) (c .Γ .table-no x) (suc d) (count (c .Γ) es) (opnds (c .Γ) es) ∷ [])
 
-      last : (i : ℕ) (us : List Value) (s2 : State) (ps2 : Places) → HasAll (c .ws) us (w .0) → Stays s s2 → Keeps d ps ps2 → ps2 d ≡ some i → args ps2 (suc d) (count (c .Γ) es) ≡ some (nums us) → arrs-at (c .j .arrs) (opnds (c .Γ) es) ≡ some (arrs-of us) → (o : Option Name) → nth (w .1 .1) i ≡ o → Out (v .P) (v .W) (QE (c .j) (pc + sizeE (c .Γ) (by-table x e es)) d ps st s) (suc (suc n) - wE (by-table x e es)) (mk (c .j) ((pc + sizeE (c .Γ) e) + sizeEs (c .Γ) es) ps2 st s2) (opt o (trap 1 s2) (λ g. calls (λ g u r. run (v .p) (suc n) g u r) (v .p) (w .1 .0 .file) g us s2))
+      code : nth (c .G .code) ((pc + sizeV (c .Γ) e) + sizeEs (c .Γ) es) ≡ some (s-table d (at-place (c .Γ) e d) (c .Γ .table-no x) (suc d) (count (c .Γ) es) (opnds (c .Γ) es))
+      code = at-right _ (pc + sizeV (c .Γ) e) (genEs (c .Γ) es (suc d) (pc + sizeV (c .Γ) e)) _ (sizeEs (c .Γ) es) (len-Es es (c .Γ) (suc d) (pc + sizeV (c .Γ) e)) (behind-V (c .G .code) (c .Γ) e d pc rest at) .0
+
+      last : (i : ℕ) (us : List Value) (s2 : State) (ps2 : Places) → HasAll (c .ws) us (w .0) → Stays s s2 → Keeps d ps ps2 → ps2 (at-place (c .Γ) e d) ≡ some i → args ps2 (suc d) (count (c .Γ) es) ≡ some (nums us) → arrs-at (c .j .arrs) (opnds (c .Γ) es) ≡ some (arrs-of us) → (o : Option Name) → nth (w .1 .1) i ≡ o → Out (v .P) (v .W) (QE (c .j) (pc + sizeE (c .Γ) (by-table x e es)) d ps st s) (suc (suc n) - wE (by-table x e es)) (mk (c .j) ((pc + sizeV (c .Γ) e) + sizeEs (c .Γ) es) ps2 st s2) (opt o (trap 1 s2) (λ g. calls (λ g u r. run (v .p) (suc n) g u r) (v .p) (w .1 .0 .file) g us s2))
       last i us s2 ps2 ha y k h hx hs none z = r-table-trap (pre .here) code h (w .1 .4) (L .nos-none (w .1 .0 .file) (w .1 .1) i z)
       last i us s2 ps2 ha y k h hx hs (some f) z =
           let b = w .1 .5 i f z in
           let t = b .0 in let g = b .1 in let r = b .2 in let a = b .3 in
           let q = pre-on d ps2 pre y k (omega arith) in
           let C = called v L c s2 (w .1 .0 .file) f t g r a us (w .0) q ha (b .4) in
-          let fr : Saved = record { act = c .j; pc = suc ((pc + sizeE (c .Γ) e) + sizeEs (c .Γ) es); places = ps2; dest = d } in
+          let fr : Saved = record { act = c .j; pc = suc ((pc + sizeV (c .Γ) e) + sizeEs (c .Γ) es); places = ps2; dest = d } in
           rw (r, a) (r-table (pre .here) g us code h (w .1 .4) (L .nos (w .1 .0 .file) (w .1 .1) i f z) (C .fn .here) hx hs (C .fn .costs) (rw (C .fn .own) (fresh-new (g .arrs)))
           (on-call (less _ (omega (arith, C .fn .light)) (ih .c (omega arith) (callee v L c (w .1 .0 .file) f t g r a us s2) g us fr st s2 C)) λ u s3 y3.
           e-done _ _ (omega arith) (stays-trans y y3) (keeps-set _ k) (upd-same ps2 d u)))

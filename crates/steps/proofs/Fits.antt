@@ -172,9 +172,10 @@ module _ (v : Env) (L : Linked v) (c : Fun) (ha : arrays-of (c .Γ .slots) ≤ c
         let k : d + count (c .Γ) es ≤ N = omega (arith, q .room) in
         each-++ _ (genEs (c .Γ) es d pc) _ (q .steps) ((omega arith, k, q .opnd, rw (w .2) (takes (c .file) x (w .0) _ _ (w .1) (q .words) (q .arrays))), tt)
     fits-E (by-table x e es) d pc w r h l =
-        let q = fits-Es es (w .0) (suc d) (pc + sizeE (c .Γ) e) (w .3) (omega arith) (omega arith) (omega arith) in
+        let u = at-le e d (w .2) r in let z0 = need-E e (c .Γ) in
+        let q = fits-Es es (w .0) (suc d) (pc + sizeV (c .Γ) e) (w .3) (omega arith) (omega arith) (omega arith) in
         let k : suc d + count (c .Γ) es ≤ N = omega (arith, q .room) in
-        each-++ _ (genE (c .Γ) e d pc) _ (fits-E e d pc (w .2) r (omega arith) (omega arith)) (each-++ _ (genEs (c .Γ) es (suc d) _) _ (q .steps)
+        each-++ _ (genV (c .Γ) e d pc) _ (un-fits (own-at (c .Γ) e) (sizeE (c .Γ) e) (sizeEs (c .Γ) es) (genE (c .Γ) e d pc) (λ m. fits-E e d pc (w .2) r (omega arith) (omega arith))) (each-++ _ (genEs (c .Γ) es (suc d) _) _ (q .steps)
         ((omega arith, omega arith, k, q .opnd, (_, w .1 .4, λ i g z. let b = nos-back (w .1 .0 .file) (w .1 .1) i g z in rw (← b .2) (takes (w .1 .0 .file) (b .0) (w .0) _ _ (w .1 .5 i (b .0) (b .1)) (q .words) (q .arrays)))), tt))
     fits-E input d pc w r h l = (omega arith, tt)
 

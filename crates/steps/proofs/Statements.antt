@@ -159,9 +159,11 @@ module _ (v : Env) (n : ℕ) (ih : Sim v n) (c : Fun) (l : Bool) (d brk nxt pc :
     where
       at2 : At (c .G .code) (pc + 2) (genE (c .Γ) e d (pc + 2) ++ (s-jz d (pc + 1) ∷ (genB (c .Γ) b d (pc + 1) (pc + 2) (suc (pc + 2 + sizeE (c .Γ) e)) ++ (s-jump (pc + 2) ∷ []))))
       at2 = let z : suc (suc pc) ≡ pc + 2 = omega arith in subst (λ i. At (c .G .code) i (genE (c .Γ) e d (pc + 2) ++ (s-jz d (pc + 1) ∷ (genB (c .Γ) b d (pc + 1) (pc + 2) (suc (pc + 2 + sizeE (c .Γ) e)) ++ (s-jump (pc + 2) ∷ []))))) z (at .1 .1)
+
       -- the step before the head leads to the end
       out : nth (c .G .code) (pc + 1) ≡ some (s-jump (pc + sizeS (c .Γ) (while1 e b)))
       out = let z : suc pc ≡ pc + 1 = omega arith in subst (λ i. nth (c .G .code) i ≡ some (s-jump (pc + sizeS (c .Γ) (while1 e b)))) z (at .1 .0)
+
       again : (m1 : Cfg) (r1 : Result) (s1 : State) → s1 .held ≡ s .held → QS v c true d (suc (pc + 2 + sizeE (c .Γ) e) + sizeB (c .Γ) b) (pc + 1) (pc + 2) st s1 m1 r1 → Out (v .P) (v .W) (QS v c l d (pc + sizeS (c .Γ) (while1 e b)) brk nxt st s) ((suc n - wS (while1 e b)) - v .W) m1 (on-round r1 (λ s2. run (v .p) n (c .file) (t-s (while1 e b)) s2))
       again m1 r1 s1 y (q-fine s2 ps2 p2 z) = r-jump (pre .here) (behind-B _ _ b d _ _ _ _ (behind _ _ e d (pc + 2) _ at2 .1) .0) (s-later _ _ refl (z ∙ y) (less _ (omega arith) (ih .w c e b l d brk nxt pc ps2 st s2 p2 w at)))
       again m1 r1 s1 y (q-broke s2 ps2 a p2 z) = r-jump (pre .here) out (s-fine _ _ refl p2 (z ∙ y))

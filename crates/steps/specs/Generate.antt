@@ -122,7 +122,7 @@ abbrev mutual
   sizeE Γ (idx x e) = suc (unless (own-at Γ e) 0 (sizeE Γ e))
   sizeE Γ (len x) = 1
   sizeE Γ (call x es) = suc (sizeEs Γ es)
-  sizeE Γ (by-table x e es) = suc (sizeE Γ e + sizeEs Γ es)
+  sizeE Γ (by-table x e es) = suc (unless (own-at Γ e) 0 (sizeE Γ e) + sizeEs Γ es)
   sizeE Γ input = 1
 
   pub sizeEs : Scope → Exprs → ℕ
@@ -209,7 +209,7 @@ abbrev mutual
   genE Γ (idx x e) d pc = unless (own-at Γ e) [] (genE Γ e d pc) ++ (s-idx d (the-arr Γ x) (at-place Γ e d) ∷ [])
   genE Γ (len x) d pc = s-len d (the-arr Γ x) ∷ []
   genE Γ (call x es) d pc = genEs Γ es d pc ++ (s-call d (Γ .fn-no x) d (count Γ es) (opnds Γ es) ∷ [])
-  genE Γ (by-table x e es) d pc = genE Γ e d pc ++ (genEs Γ es (suc d) (pc + sizeE Γ e) ++ (s-table d d (Γ .table-no x) (suc d) (count Γ es) (opnds Γ es) ∷ []))
+  genE Γ (by-table x e es) d pc = unless (own-at Γ e) [] (genE Γ e d pc) ++ (genEs Γ es (suc d) (pc + sizeV Γ e) ++ (s-table d (at-place Γ e d) (Γ .table-no x) (suc d) (count Γ es) (opnds Γ es) ∷ []))
   genE Γ input d pc = s-in d ∷ []
 
   pub genEs : Scope → Exprs → ℕ → ℕ → List Step
