@@ -1,0 +1,1 @@
+-- Nothing more than the crates below state.

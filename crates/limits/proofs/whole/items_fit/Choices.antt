@@ -1,0 +1,14 @@
+-- `items_fit`: the loop's invariant, by what is left, and its measure.
+use mathlib.Core.Path.{_≡_}
+use Rattle.language.specs.Syntax.{File}
+use Rattle.rows.specs.Has.{Has}
+use Rattle.rows.specs.Trees.{item-row, file-row}
+use Rattle.limits.specs.Split.{items-within}
+use Rattle.limits.proofs.Walk.{Rest}
+use Rattle.limits.proofs.whole.items_fit.Given as given
+
+abbrev pub Inv-loop-left : given.InvT-loop-left
+Inv-loop-left l = (f : File) → Has (l .row) (l .file) (file-row f) → Rest (l .row) item-row (λ ms. items-within (f .items) ≡ items-within ms) (l .here) (l .left)
+
+abbrev pub μ-loop-left : given.MeasureT-loop-left
+μ-loop-left l = l .left

@@ -1,0 +1,8 @@
+-- Proofs about look-ups.
+pub mod OwnNames
+pub mod Searching
+pub mod Listing
+pub mod Resolving
+pub mod Folding
+pub mod NameKinds
+pub mod NodeEffects

@@ -1,0 +1,5 @@
+-- What look-ups answer, and the check of a body node by node.
+pub mod Finds
+pub mod Fold
+pub mod Kinds
+pub mod Effects

@@ -1,0 +1,6 @@
+// Names looked up in a program's row, and the check of function bodies.
+mod asking;
+pub mod find;
+pub mod found;
+pub mod kinds;
+pub mod own;
