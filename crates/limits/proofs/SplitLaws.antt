@@ -11,12 +11,12 @@ use Rattle.limits.specs.Split.{items-within, files-within, item-resolved, item
 use Rattle.limits.proofs.Flags.{and-assoc, and-true, and-false}
 
 -- six in a row, the last apart
-six : (a b c d e f : Bool) → (a && (b && (c && (d && (e && f))))) ≡ (((a && (b && c)) && (d && e)) && f)
-six true true true true e f = refl
-six true true true false e f = refl
-six true true false d e f = refl
-six true false c d e f = refl
-six false b c d e f = refl
+last-apart : (a b c d e f : Bool) → (a && (b && (c && (d && (e && f))))) ≡ (((a && (b && c)) && (d && e)) && f)
+last-apart true true true true e f = refl
+last-apart true true true false e f = refl
+last-apart true true false d e f = refl
+last-apart true false c d e f = refl
+last-apart false b c d e f = refl
 
 -- two of one sort and two of another
 sorted : (a b c d : Bool) → ((a && b) && (c && d)) ≡ ((a && c) && (b && d))
@@ -25,23 +25,25 @@ sorted true false true d = refl
 sorted true false false d = refl
 sorted false b c d = refl
 
-named1 : (o a b c d : Bool) → (o && ((a && b) && (c && d))) ≡ (((a && o) && c) && (b && d))
-named1 true true b c d = sorted true b c d
-named1 true false b c d = refl
-named1 false true b c d = refl
-named1 false false b c d = refl
+-- the names of a file's top with its limits
+names-sorted : (o a b c d : Bool) → (o && ((a && b) && (c && d))) ≡ (((a && o) && c) && (b && d))
+names-sorted true true b c d = sorted true b c d
+names-sorted true false b c d = refl
+names-sorted false true b c d = refl
+names-sorted false false b c d = refl
 
-four : (a m t b d : Bool) → (a && (m && (t && (b && d)))) ≡ ((a && (t && b)) && (m && d))
-four true true t b d = sym (and-assoc t b d)
-four true false t b d = sym (and-false (t && b))
-four false m t b d = refl
+-- main with what needs look-ups
+main-apart : (a m t b d : Bool) → (a && (m && (t && (b && d)))) ≡ ((a && (t && b)) && (m && d))
+main-apart true true t b d = sym (and-assoc t b d)
+main-apart true false t b d = sym (and-false (t && b))
+main-apart false m t b d = refl
 
 split-item : (p : Prog) (f : Name) (i : Item) → okI p f i ≡ (item-within i && item-resolved p f i)
 split-item p f (i-word x) = refl
 split-item p f (i-arr a) = sym (and-true (leb 1 (a .size) && leb (a .size) 65536))
 split-item p f (i-data w x ns) = sym (and-true (leb 1 (length ns) && words-ok w ns))
 split-item p f (i-table x fs) = refl
-split-item p f (i-fn g) = six (leb (length (g .params)) 8) (leb (length (g .vars)) 64) (leb (length (g .arrs)) 16) (sizes 4096 (g .arrs)) (once (param-names (g .params) ++ (g .vars ++ arr-names (g .arrs)))) (okB p f g false (g .body))
+split-item p f (i-fn g) = last-apart (leb (length (g .params)) 8) (leb (length (g .vars)) 64) (leb (length (g .arrs)) 16) (sizes 4096 (g .arrs)) (once (param-names (g .params) ++ (g .vars ++ arr-names (g .arrs)))) (okB p f g false (g .body))
 split-item p f (i-use y xs) = refl
 
 split-items : (p : Prog) (f : Name) (is : List Item) → okIs p f is ≡ (items-within is && items-resolved p f is)
@@ -52,9 +54,9 @@ split-files : (p fs : Prog) → okFs p fs ≡ (files-within fs && files-resolved
 split-files p [] = refl
 split-files p (f ∷ fs) =
     ap₂ (λ (s t : Bool). once (names-in (f .items)) && (s && t)) (split-items p (f .name) (f .items)) (split-files p fs)
-    ∙ named1 (once (names-in (f .items))) (items-within (f .items)) (items-resolved p (f .name) (f .items)) (files-within fs) (files-resolved p fs)
+    ∙ names-sorted (once (names-in (f .items))) (items-within (f .items)) (items-resolved p (f .name) (f .items)) (files-within fs) (files-resolved p fs)
 
 pub splits : Splits
 splits p =
     ap (λ (t : Bool). once (file-names p) && (has-main p && (leb (totals p) 262144 && t))) (split-files p p)
-    ∙ four (once (file-names p)) (has-main p) (leb (totals p) 262144) (files-within p) (files-resolved p p)
+    ∙ main-apart (once (file-names p)) (has-main p) (leb (totals p) 262144) (files-within p) (files-resolved p p)

@@ -1,4 +1,4 @@
--- The checks in two parts: what can be told without looking names up, and what needs it. A row is of a program exactly if both hold.
+-- The checks in two parts: what can be told without looking names up, and what needs it. Files are a program exactly if both hold.
 use mathlib.Core.Path.{_≡_}
 use mathlib.Core.Bool.{Bool, true, false, _&&_, not}
 use mathlib.Core.List.{List, [], _∷_}

@@ -35,14 +35,14 @@ pub(super) fn number_at(row: &[u32], i: usize) -> usize
 }
 
 // The place behind a name of a function.
-pub fn past_local(row: &[u32], i: usize) -> usize
+pub(super) fn past_local(row: &[u32], i: usize) -> usize
     ensures { λ r. ⌜ ((l : Local) → Has (now (row .entry)) i (local-row l) → r ≡ i + length (local-row l)) ⌝ }
 {
     past_name(row, i.saturating_add(3))
 }
 
 // The place behind n names of a function.
-pub fn past_locals(row: &[u32], place: usize, n: usize) -> usize
+pub(super) fn past_locals(row: &[u32], place: usize, n: usize) -> usize
     ensures { λ r. ⌜ ((ls : List Local) → Has (now (row .entry)) place (list-row local-row ls) → length ls ≡ n → r ≡ place + length (list-row local-row ls)) ⌝ }
 {
     let mut here = place;
@@ -55,7 +55,7 @@ pub fn past_locals(row: &[u32], place: usize, n: usize) -> usize
 }
 
 // The place behind a file.
-pub fn past_file(row: &[u32], file: usize) -> usize
+pub(super) fn past_file(row: &[u32], file: usize) -> usize
     ensures { λ r. ⌜ ((f : File) → Has (now (row .entry)) file (file-row f) → r ≡ file + length (file-row f)) ⌝ }
 {
     let head = past_name(row, file);

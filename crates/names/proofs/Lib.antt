@@ -6,3 +6,6 @@ pub mod Resolving
 pub mod Folding
 pub mod NameKinds
 pub mod NodeEffects
+pub mod Piles
+pub mod BodyNodes
+pub mod Referring

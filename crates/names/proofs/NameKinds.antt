@@ -13,16 +13,17 @@ use Rattle.language.specs.Syntax.{pick, opt, Name, same, listed, Kind, k-word, 
 use Rattle.language.specs.Words.{bit}
 use Rattle.language.specs.Meaning.{on-some, or-else, Top, resolve, as-fn, as-table}
 use Rattle.language.specs.Checks.{in-params, in-arrs, kind-of, kind-is, is-local, fn-named, head-fn, params-of, params-table}
-use Rattle.steps.specs.Generate.{Ref, find}
+use Rattle.steps.specs.Generate.{Slot, w-slot, a-slot, Ref, find, slot-of, arr-slots, var-slots, slots-from, slots-of}
 use Rattle.rows.specs.Has.{Has, named}
 use Rattle.rows.specs.Nodes.{body-row}
 use Rattle.rows.specs.Trees.{Local, list-row, map-list, kind-no, of-param, of-var, of-array, locals, local-row, fn-row, item-no, name-of, tail-row, item-row, prog-row}
 use Rattle.rows.proofs.Having.{has-word, has-next, has-left, has-right, has-to, has-as}
 use Rattle.names.specs.declared.found.Spot.{Spot}
 use Rattle.names.specs.declared.found.Listed.{Listed}
-use Rattle.names.specs.Finds.{slots-in, ref-kind, top-in, IsOwn, IsTop, Resolves}
+use Rattle.names.specs.declared.found.Own.{Own}
+use Rattle.names.specs.Finds.{slots-in, ref-kind, top-in, FindsOwn, IsTop, Resolves}
 use Rattle.names.specs.Kinds.{kind-or, item-kind, item-params, item-table, kind-top, IsListed, IsParams, FindsParams, called, FindsCalled}
-use Rattle.names.proofs.OwnNames.{is-found, ref-of, find-step, ref-of-kind, word-bit, array-bit}
+use Rattle.names.proofs.OwnNames.{ref-of, find-step, ref-of-kind, word-bit, array-bit}
 use Rattle.names.proofs.Searching.{item-name, item-tail}
 
 -- rows of lists, one behind another
@@ -248,19 +249,41 @@ or-or : (a b c : Option Kind) → or-else (or-else a b) c ≡ or-else a (or-else
 or-or none b c = refl
 or-or (some k) b c = refl
 
+-- the generator has the same names in the same order
+slots-are : (g : Fn) → slots-in (locals g) ≡ slots-of g
+slots-are g = ps (g .params)
+  where
+    rs : (bs : List Arr) → slots-in (map-list of-array bs) ≡ arr-slots bs
+    rs [] = refl
+    rs (b ∷ bs) = ap (λ (l : List Slot). a-slot (b .name) (b .wide) ∷ l) (rs bs)
+
+    vs : (xs : List Name) → slots-in (map-list of-var xs ++ map-list of-array (g .arrs)) ≡ var-slots xs (g .arrs)
+    vs [] = rs (g .arrs)
+    vs (x ∷ xs) = ap (λ (l : List Slot). w-slot x ∷ l) (vs xs)
+
+    ps : (qs : List Param) → slots-in (map-list of-param qs ++ (map-list of-var (g .vars) ++ map-list of-array (g .arrs))) ≡ slots-from qs (g .vars) (g .arrs)
+    ps [] = vs (g .vars)
+    ps (q ∷ qs) = ap (λ (l : List Slot). slot-of (q .name) (q .kind) ∷ l) (ps qs)
+
+pub own-slots : (g : Fn) (x : Name) (q : std.Option Own) → FindsOwn (slots-in (locals g)) x q → FindsOwn (slots-of g) x q
+own-slots g x q v = subst (λ (ss : List Slot). FindsOwn ss x q) (slots-are g) v
+
+own-kind : (g : Fn) (x : Name) → in-list (locals g) x ≡ on-some (find (slots-of g) x 0 0) (λ r. some (ref-kind r))
+own-kind g x = list-found (locals g) x 0 0 ∙ ap (λ (ss : List Slot). on-some (find ss x 0 0) (λ r. some (ref-kind r))) (slots-are g)
+
 -- a name's kind: among the function's own, else at the top
 kind-split : (p : Prog) (f : Name) (g : Fn) (x : Name) → kind-of p f g x ≡ or-else (in-list (locals g) x) (kind-top p f x)
 kind-split p f g x =
     sym (ap (λ (o : Option Kind). or-else o (kind-top p f x)) (in-locals g x) ∙ or-or (in-params (g .params) x) (or-else (pick (listed x (g .vars)) (some k-word) none) (in-arrs (g .arrs) x)) (kind-top p f x) ∙ ap (or-else (in-params (g .params) x)) (or-or (pick (listed x (g .vars)) (some k-word) none) (in-arrs (g .arrs) x) (kind-top p f x)))
 
-pub kind-own : (p : Prog) (f : Name) (g : Fn) (x : Name) {r : Ref} {n : ℕ} → find (slots-in (locals g)) x 0 0 ≡ some r → n ≡ kind-no (ref-kind r) → n ≡ kind-or (kind-of p f g x)
+pub kind-own : (p : Prog) (f : Name) (g : Fn) (x : Name) {r : Ref} {n : ℕ} → find (slots-of g) x 0 0 ≡ some r → n ≡ kind-no (ref-kind r) → n ≡ kind-or (kind-of p f g x)
 kind-own p f g x {r} {n} e k =
-    let q : in-list (locals g) x ≡ some (ref-kind r) = list-found (locals g) x 0 0 ∙ ap (λ (o : Option Ref). on-some o (λ t. some (ref-kind t))) e in
+    let q : in-list (locals g) x ≡ some (ref-kind r) = own-kind g x ∙ ap (λ (o : Option Ref). on-some o (λ t. some (ref-kind t))) e in
     k ∙ sym (ap kind-or (kind-split p f g x ∙ ap (λ (o : Option Kind). or-else o (kind-top p f x)) q))
 
-pub kind-else : (p : Prog) (f : Name) (g : Fn) (x : Name) {n : ℕ} → find (slots-in (locals g)) x 0 0 ≡ none → n ≡ kind-or (kind-top p f x) → n ≡ kind-or (kind-of p f g x)
+pub kind-else : (p : Prog) (f : Name) (g : Fn) (x : Name) {n : ℕ} → find (slots-of g) x 0 0 ≡ none → n ≡ kind-or (kind-top p f x) → n ≡ kind-or (kind-of p f g x)
 kind-else p f g x {n} e k =
-    let q : in-list (locals g) x ≡ none = list-found (locals g) x 0 0 ∙ ap (λ (o : Option Ref). on-some o (λ t. some (ref-kind t))) e in
+    let q : in-list (locals g) x ≡ none = own-kind g x ∙ ap (λ (o : Option Ref). on-some o (λ t. some (ref-kind t))) e in
     k ∙ sym (ap kind-or (kind-split p f g x ∙ ap (λ (o : Option Kind). or-else o (kind-top p f x)) q))
 
 -- whether a name is one of the function's own
@@ -272,13 +295,13 @@ is-own g x = go (in-params (g .params) x) (listed x (g .vars)) (in-arrs (g .arrs
     go none false c = refl
     go (some k) b c = refl
 
-own-found : (g : Fn) (x : Name) (o : Option Ref) → find (slots-in (locals g)) x 0 0 ≡ o → is-local g x ≡ opt (on-some o (λ t. some (ref-kind t))) false (λ k. true)
-own-found g x o e = is-own g x ∙ ap (λ (q : Option Kind). opt q false (λ k. true)) (list-found (locals g) x 0 0 ∙ ap (λ (q : Option Ref). on-some q (λ t. some (ref-kind t))) e)
+own-found : (g : Fn) (x : Name) (o : Option Ref) → find (slots-of g) x 0 0 ≡ o → is-local g x ≡ opt (on-some o (λ t. some (ref-kind t))) false (λ k. true)
+own-found g x o e = is-own g x ∙ ap (λ (q : Option Kind). opt q false (λ k. true)) (own-kind g x ∙ ap (λ (q : Option Ref). on-some q (λ t. some (ref-kind t))) e)
 
-pub called-own : (p : Prog) (f : Name) (g : Fn) (x : Name) {r : Ref} → find (slots-in (locals g)) x 0 0 ≡ some r → called p f g x ≡ none
+pub called-own : (p : Prog) (f : Name) (g : Fn) (x : Name) {r : Ref} → find (slots-of g) x 0 0 ≡ some r → called p f g x ≡ none
 called-own p f g x {r} e = ap (λ (b : Bool). pick b none (resolve p f x)) (own-found g x (some r) e)
 
-pub called-top : (w : List ℕ) (p : Prog) (f : Name) (g : Fn) (x : Name) → find (slots-in (locals g)) x 0 0 ≡ none → (q : std.Option Spot) → Resolves w p f x q → FindsCalled w (called p f g x) q
+pub called-top : (w : List ℕ) (p : Prog) (f : Name) (g : Fn) (x : Name) → find (slots-of g) x 0 0 ≡ none → (q : std.Option Spot) → Resolves w p f x q → FindsCalled w (called p f g x) q
 called-top w p f g x e None v = ap (λ (b : Bool). pick b none (resolve p f x)) (own-found g x none e) ∙ v
 called-top w p f g x e (Some s) v =
     let u = v .top in

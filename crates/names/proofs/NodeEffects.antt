@@ -28,7 +28,7 @@ use Rattle.names.specs.Kinds.{kind-or, IsListed, FindsParams}
 use Rattle.names.specs.Effects.{takes, gives, wants-kind, suits, stands, deeper, give, local-kinds, nowhere, Does, Asks}
 use Rattle.names.proofs.NameKinds.{map-length}
 
-pub tag-of : Node → ℕ
+unfoldable pub tag-of : Node → ℕ
 tag-of (n-num n) = 0
 tag-of (n-var x) = 1
 tag-of (n-bin o) = 2
@@ -285,7 +285,7 @@ module _ {w : List ℕ} (Γ : Ctx) {i s u : ℕ} (small : length w < 18446744073
   table-node d e m (n-arg x) at1 eq rd it = absurd (omega arith)
 
 -- too few or too many arguments
-fit-long : (ks qs : List Kind) → (length ks ≡ length qs → ⊥) → fit ks qs ≡ false
+pub fit-long : (ks qs : List Kind) → (length ks ≡ length qs → ⊥) → fit ks qs ≡ false
 fit-long [] [] e = absurd (e refl)
 fit-long [] (q ∷ qs) e = refl
 fit-long (k ∷ ks) [] e = refl

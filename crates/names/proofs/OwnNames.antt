@@ -91,10 +91,10 @@ module _ {w : List ℕ} {ls : List Local} {x : Name} {a i m n s k name : ℕ} (s
             counted = omega arith;
           }
 
-  pub passed-found : {e : ℕ} → ((y z : Name) → Has w s (named y) → Has w name (named z) → true ≡ same y z) → e ≡ pick (eqb k 0) m n → Passed w ls x a m n i → IsOwn ls x (record { index = e; kind = k })
+  pub passed-found : {e : ℕ} → ((y z : Name) → Has w s (named y) → Has w name (named z) → true ≡ same y z) → e ≡ pick (eqb k 0) m n → Passed w ls x a m n i → IsOwn (slots-in ls) x (record { index = e; kind = k })
   passed-found {e} it ee p = go (p .left) (p .here) (p .long) (p .found)
     where
-      go : (rs : List Local) → Has w a (list-row local-row rs) → i + length rs ≡ length ls → find (slots-in ls) x 0 0 ≡ find (slots-in rs) x m n → IsOwn ls x (record { index = e; kind = k })
+      go : (rs : List Local) → Has w a (list-row local-row rs) → i + length rs ≡ length ls → find (slots-in ls) x 0 0 ≡ find (slots-in rs) x m n → IsOwn (slots-in ls) x (record { index = e; kind = k })
       go [] h l f = absurd (omega arith)
       go (q ∷ rs) h l f =
           let hn = first-name q rs small sum h in

@@ -222,17 +222,17 @@ first-item : {w : List ℕ} {a : ℕ} (i : Item) (is : List Item) (fs : Prog) �
 first-item i is fs h = has-as (append-assoc (item-row i) (list-row item-row is) (list-row file-row fs)) h
 
 -- what the test of an item says
-abbrev pub Declares : List ℕ → Bool → ℕ → ℕ → Bool → Type 0
-Declares w b a n r = (i : Item) (x : Name) → Has w a (item-row i) → Has w n (named x) → r ≡ (not (eqb (item-no i) 5) && (b && same (name-of i) x))
+abbrev pub Declares : List ℕ → Bool → ℕ → List ℕ → ℕ → Bool → Type 0
+Declares w b a v n r = (i : Item) (x : Name) → Has w a (item-row i) → Has v n (named x) → r ≡ (not (eqb (item-no i) 5) && (b && same (name-of i) x))
 
-pub declared : {w : List ℕ} {n a u : ℕ} {c : Bool} (b : Bool) → length w < 18446744073709551616 → n ≡ getD w a 0 → u ≡ min (a + 2) 18446744073709551615 → {k : ℕ} → ((y z : Name) → Has w u (named y) → Has w k (named z) → c ≡ same y z) → (i : Item) (x : Name) → Has w a (item-row i) → Has w k (named x) → (not (eqb n 5) && (b && c)) ≡ (not (eqb (item-no i) 5) && (b && same (name-of i) x))
-declared {w} {n} {a} {u} {c} b small rd sum it i x h hx =
+pub declared : {w v : List ℕ} {n a u : ℕ} {c : Bool} (b : Bool) → length w < 18446744073709551616 → n ≡ getD w a 0 → u ≡ min (a + 2) 18446744073709551615 → {k : ℕ} → ((y z : Name) → Has w u (named y) → Has v k (named z) → c ≡ same y z) → (i : Item) (x : Name) → Has w a (item-row i) → Has v k (named x) → (not (eqb n 5) && (b && c)) ≡ (not (eqb (item-no i) 5) && (b && same (name-of i) x))
+declared {w} {v} {n} {a} {u} {c} b small rd sum it i x h hx =
     let hn = item-name i h in
     ap₂ (λ (m : ℕ) (t : Bool). not (eqb m 5) && (b && t)) (rd ∙ has-word h) (it (name-of i) x (has-to (omega (arith, hn .inside)) hn) hx)
 
-module _ {w : List ℕ} {p : Prog} {F X : Name} {s : Spot} {n m k e : ℕ} {b : Bool} (lt : k < m) (hx : Has w e (named X)) where
-  pub inner-more : {t : Spot} → Declares w b (s .item) e false → ((i : Item) → Has w (s .item) (item-row i) → Counted s (s .item) → Passes i s t) → Inner w p F X s n m k b → Inner w p F X t n m (k + 1) b
-  inner-more {t} o st v = go (v .items) (v .here) (v .long) (v .narrow)
+module _ {w o : List ℕ} {p : Prog} {F X : Name} {s : Spot} {n m k e : ℕ} {b : Bool} (lt : k < m) (hx : Has o e (named X)) where
+  pub inner-more : {t : Spot} → Declares w b (s .item) o e false → ((i : Item) → Has w (s .item) (item-row i) → Counted s (s .item) → Passes i s t) → Inner w p F X s n m k b → Inner w p F X t n m (k + 1) b
+  inner-more {t} d st v = go (v .items) (v .here) (v .long) (v .narrow)
     where
       go : (is : List Item) → Has w (s .item) (list-row item-row is ++ list-row file-row (v .left)) → k + length is ≡ m → Narrows p F X (s .fns) (s .tables) (rest-tops (v .file) is (v .left) (s .words) (s .arrays)) → Inner w p F X t n m (k + 1) b
       go [] h l na = absurd (omega arith)
@@ -245,7 +245,7 @@ module _ {w : List ℕ} {p : Prog} {F X : Name} {s : Spot} {n m k e : ℕ} {b : 
           let ba : arrays1 i ≤ 1 = subst (λ (y : ℕ). y ≤ 1) (arrays-bit i) (bit-le _) in
           let bf : fns-in i ≤ 1 = subst (λ (y : ℕ). y ≤ 1) (fns-bit i) (bit-le _) in
           let bt : tables-in i ≤ 1 = subst (λ (y : ℕ). y ≤ 1) (tables-bit i) (bit-le _) in
-          let no = ap (λ (c : Bool). not (eqb (item-no i) 5) && (c && same (name-of i) X)) (sym (v .is-it)) ∙ sym (o i X hi hx) in
+          let no = ap (λ (c : Bool). not (eqb (item-no i) 5) && (c && same (name-of i) X)) (sym (v .is-it)) ∙ sym (d i X hi hx) in
           record {
             file = v .file;
             items = is;
@@ -259,8 +259,8 @@ module _ {w : List ℕ} {p : Prog} {F X : Name} {s : Spot} {n m k e : ℕ} {b : 
             counted = record { words = omega (arith, z .words, z .item, v .counted .words); arrays = omega (arith, z .arrays, z .item, v .counted .arrays); fns = omega (arith, z .fns, z .item, v .counted .fns); tables = omega (arith, z .tables, z .item, v .counted .tables) };
           }
 
-  pub inner-found : Declares w b (s .item) e true → Inner w p F X s n m k b → TopAt w (all-tops p 0 0) F X s
-  inner-found o v = go (v .items) (v .here) (v .long) (v .narrow)
+  pub inner-found : Declares w b (s .item) o e true → Inner w p F X s n m k b → TopAt w (all-tops p 0 0) F X s
+  inner-found d v = go (v .items) (v .here) (v .long) (v .narrow)
     where
       not-use : (q c : Bool) → true ≡ (not q && c) → q ≡ false
       not-use true c e1 = e1
@@ -271,13 +271,13 @@ module _ {w : List ℕ} {p : Prog} {F X : Name} {s : Spot} {n m k e : ℕ} {b : 
       go (i ∷ is) h l na =
           let hi = has-left (item-row i) (list-row item-row is ++ list-row file-row (v .left)) (first-item i is (v .left) h) in
           let u = top-in (v .file) i (s .words) (s .arrays) in
-          let yes1 : hits u F X ≡ true = hit (v .file) i (s .words) (s .arrays) F X ∙ ap (λ (c : Bool). not (eqb (item-no i) 5) && (c && same (name-of i) X)) (sym (v .is-it)) ∙ sym (o i X hi hx) in
+          let yes1 : hits u F X ≡ true = hit (v .file) i (s .words) (s .arrays) F X ∙ ap (λ (c : Bool). not (eqb (item-no i) 5) && (c && same (name-of i) X)) (sym (v .is-it)) ∙ sym (d i X hi hx) in
           let g = rest-step (v .file) i is (v .left) (s .words) (s .arrays) in
           let rs = rest-tops (v .file) is (v .left) (s .words + words1 i) (s .arrays + arrays1 i) in
           let q = ap (λ (ts : List Top). pos as-fn ts F X) g ∙ pos-here as-fn u F X rs yes1 in
           let q1 = ap (λ (ts : List Top). pos as-table ts F X) g ∙ pos-here as-table u F X rs yes1 in
           record {
-            top = record { file = v .file; item = i; at-file = v .at-file; at-item = hi; is = na .top ∙ ap (λ (ts : List Top). top-of ts F X) g ∙ top-here u F X rs yes1; not-use = not-use (eqb (item-no i) 5) (b && same (name-of i) X) (o i X hi hx) };
+            top = record { file = v .file; item = i; at-file = v .at-file; at-item = hi; is = na .top ∙ ap (λ (ts : List Top). top-of ts F X) g ∙ top-here u F X rs yes1; not-use = not-use (eqb (item-no i) 5) (b && same (name-of i) X) (d i X hi hx) };
             fns = omega (arith, na .fns, q);
             tables = omega (arith, na .tables, q1);
           }

@@ -31,15 +31,15 @@ abbrev pub ref-index : Ref → ℕ
 ref-index (r-word i) = i
 ref-index (r-arr i w) = i
 
--- the first of the names ls that is x
-pub record IsOwn (ls : List Local) (x : Name) (o : Own) : Type 0 where
+-- the first of the names that is x
+pub record IsOwn (ss : List Slot) (x : Name) (o : Own) : Type 0 where
   pub ref : Ref
-  pub is : find (slots-in ls) x 0 0 ≡ some ref
+  pub is : find ss x 0 0 ≡ some ref
   pub index : o .index ≡ ref-index ref
   pub kind : o .kind ≡ kind-no (ref-kind ref)
 
-abbrev pub FindsOwn : List Local → Name → std.Option Own → Type 0
-FindsOwn ls x r = Cases r (find (slots-in ls) x 0 0 ≡ none) (IsOwn ls x)
+abbrev pub FindsOwn : List Slot → Name → std.Option Own → Type 0
+FindsOwn ss x r = Cases r (find ss x 0 0 ≡ none) (IsOwn ss x)
 
 -- the top that an item is, behind w words and a arrays
 abbrev pub top-in : Name → Item → ℕ → ℕ → Option Top

@@ -3,3 +3,5 @@ pub mod Finds
 pub mod Fold
 pub mod Kinds
 pub mod Effects
+pub mod Pile
+pub mod Resolved

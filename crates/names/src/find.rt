@@ -32,16 +32,34 @@ fn pass(row: &[u32], s: Spot) -> Spot
     }
 }
 
-// Whether an item of a file that is the one sought declares a name.
-fn declares(row: &[u32], here: bool, item: usize, name: usize) -> bool
-    ensures { λ r. ⌜ ((i : Item) (x : Name) → Has (now (row .entry)) item (item-row i) → Has (now (row .entry)) name (named x) → r ≡ (not (eqb (item-no i) 5) && (here && same (name-of i) x))) ⌝ }
+// Whether a name of a row is one of other words.
+fn same_in(row: &[u32], i: usize, words: &[u32], j: usize) -> bool
+    ensures { λ r. ⌜ ((x y : Name) → Has (now (row .entry)) i (named x) → Has (now (words .entry)) j (named y) → r ≡ same x y) ⌝ }
 {
-    (at(row, item) != 5) & (here & same_at(row, item.saturating_add(2), name))
+    let n = at(row, i);
+    if n != at(words, j) {
+        return false;
+    }
+    let mut k = 1;
+    while k <= n {
+        if at(row, i.saturating_add(k)) != at(words, j.saturating_add(k)) {
+            return false;
+        }
+        k += 1;
+    }
+    true
 }
 
-// A name at the top of a file, the file given by a place of its name.
-pub fn find_top(row: &[u32], file: usize, name: usize) -> Option<Spot>
-    ensures { λ r. ⌜ ((p : Prog) (f x : Name) → now (row .entry) ≡ prog-row p → Has (now (row .entry)) file (named f) → Has (now (row .entry)) name (named x) → FindsTop (now (row .entry)) (all-tops p 0 0) f x r) ⌝ }
+// Whether an item of a file that is the one sought declares a name, which stands in other words.
+fn declares(row: &[u32], here: bool, item: usize, words: &[u32], name: usize) -> bool
+    ensures { λ r. ⌜ ((i : Item) (x : Name) → Has (now (row .entry)) item (item-row i) → Has (now (words .entry)) name (named x) → r ≡ (not (eqb (item-no i) 5) && (here && same (name-of i) x))) ⌝ }
+{
+    (at(row, item) != 5) & (here & same_in(row, item.saturating_add(2), words, name))
+}
+
+// A name, which stands in other words, at the top of a file, which is given by a place of its name.
+pub fn find_top(row: &[u32], file: usize, words: &[u32], name: usize) -> Option<Spot>
+    ensures { λ r. ⌜ ((p : Prog) (f x : Name) → now (row .entry) ≡ prog-row p → Has (now (row .entry)) file (named f) → Has (now (words .entry)) name (named x) → FindsTop (now (row .entry)) (all-tops p 0 0) f x r) ⌝ }
 {
     let files = at(row, 0);
     let mut s = Spot {
@@ -63,7 +81,7 @@ pub fn find_top(row: &[u32], file: usize, name: usize) -> Option<Spot>
         s.item = head.saturating_add(1);
         let mut k = 0;
         while k < items {
-            if declares(row, here, s.item, name) {
+            if declares(row, here, s.item, words, name) {
                 break 'files Some(s);
             }
             s = pass(row, s);
@@ -92,7 +110,7 @@ pub fn is_listed(row: &[u32], place: usize, name: usize) -> bool
 }
 
 // The place behind items that stand behind their number.
-fn past_items(row: &[u32], place: usize) -> usize
+pub fn past_items(row: &[u32], place: usize) -> usize
     ensures { λ r. ⌜ ((is : List Item) → Has (now (row .entry)) place (length is ∷ list-row item-row is) → r ≡ place + (1 + length (list-row item-row is))) ⌝ }
 {
     let items = at(row, place);
@@ -164,11 +182,11 @@ fn find_home(row: &[u32], file: usize, name: usize) -> Option<usize>
 pub fn resolve(row: &[u32], file: usize, name: usize) -> Option<Spot>
     ensures { λ r. ⌜ ((p : Prog) (f x : Name) → now (row .entry) ≡ prog-row p → Has (now (row .entry)) file (named f) → Has (now (row .entry)) name (named x) → Resolves (now (row .entry)) p f x r) ⌝ }
 {
-    if let Some(s) = find_top(row, file, name) {
+    if let Some(s) = find_top(row, file, row, name) {
         return Some(s);
     }
     match find_home(row, file, name) {
-        Some(home) => find_top(row, home, name),
+        Some(home) => find_top(row, home, row, name),
         None => None,
     }
 }

@@ -1,6 +1,6 @@
 // What names are in a function: kinds of names, and the parameters of what is called.
 ghost use mathlib.Core.Path.{_≡_};
-ghost use mathlib.Core.List.{List, _∷_};
+ghost use mathlib.Core.List.{List, _∷_, _++_};
 ghost use mathlib.Core.Option.{some};
 ghost use Prim.Native.Nat.{ℕ, _+_, _<_, _≤_};
 ghost use lib.ListN.{length};
@@ -8,18 +8,23 @@ ghost use Rattle.language.specs.Syntax.{Name, Fn, Item, i-fn, Prog};
 ghost use Rattle.language.specs.Meaning.{on-some};
 ghost use Rattle.language.specs.Checks.{kind-of, fn-named, head-fn, params-of, params-table};
 ghost use Rattle.rows.specs.Has.{Has, named};
-ghost use Rattle.rows.specs.Trees.{list-row, map-list, of-param, locals, item-row, prog-row};
+ghost use Rattle.rows.specs.Nodes.{body-row};
+ghost use Rattle.rows.specs.Trees.{list-row, map-list, of-param, locals, local-row, item-row, prog-row};
+ghost use Rattle.steps.specs.Generate.{slots-of};
+ghost use Rattle.names.specs.Finds.{FindsOwn};
 ghost use Rattle.names.specs.Kinds.{kind-or, item-kind, IsListed, item-params, item-table, kind-top, FindsParams, called, FindsCalled};
 use crate::find::resolve;
 use crate::found::Listed;
+use crate::found::Own;
 use crate::found::Spot;
 use crate::own::find_own;
 use rows::read::at;
 use rows::read::past_name;
 
-// The names of the function that an item is.
+// The names of the function that an item is; its body stands behind them.
 pub fn names_of(row: &[u32], item: usize) -> Listed
-    ensures { λ r. ⌜ ((g : Fn) → Has (now (row .entry)) item (item-row (i-fn g)) → IsListed (now (row .entry)) (locals g) r) ⌝ }
+    ensures names { λ r. ⌜ ((g : Fn) → Has (now (row .entry)) item (item-row (i-fn g)) → IsListed (now (row .entry)) (locals g) r) ⌝ }
+    ensures body { λ r. ⌜ ((g : Fn) → Has (now (row .entry)) item (item-row (i-fn g)) → Has (now (row .entry)) (r .place) (list-row local-row (locals g) ++ body-row (g .body))) ⌝ }
 {
     let head = past_name(row, item.saturating_add(2));
     let params = at(row, head);
@@ -42,6 +47,14 @@ pub fn params_in(row: &[u32], item: usize) -> Listed
         place,
         count: at(row, head),
     }
+}
+
+// A name among those of the function that an item is, as the generator numbers them.
+pub fn own_in(row: &[u32], item: usize, name: usize) -> Option<Own>
+    ensures { λ r. ⌜ ((g : Fn) (x : Name) → Has (now (row .entry)) item (item-row (i-fn g)) → Has (now (row .entry)) name (named x) → FindsOwn (slots-of g) x r) ⌝ }
+{
+    let names = names_of(row, item);
+    find_own(row, names.place, names.count, name)
 }
 
 // The number of an item's kind; 3 if it has none.
@@ -72,8 +85,7 @@ fn top_kind(row: &[u32], file: usize, name: usize) -> usize
 pub fn kind_in(row: &[u32], file: usize, item: usize, name: usize) -> usize
     ensures { λ r. ⌜ ((p : Prog) (f : Name) (g : Fn) (x : Name) → now (row .entry) ≡ prog-row p → Has (now (row .entry)) file (named f) → Has (now (row .entry)) item (item-row (i-fn g)) → Has (now (row .entry)) name (named x) → r ≡ kind-or (kind-of p f g x)) ⌝ }
 {
-    let names = names_of(row, item);
-    match find_own(row, names.place, names.count, name) {
+    match own_in(row, item, name) {
         Some(own) => own.kind,
         None => top_kind(row, file, name),
     }
@@ -83,15 +95,14 @@ pub fn kind_in(row: &[u32], file: usize, item: usize, name: usize) -> usize
 fn find_called(row: &[u32], file: usize, item: usize, name: usize) -> Option<Spot>
     ensures { λ r. ⌜ ((p : Prog) (f : Name) (g : Fn) (x : Name) → now (row .entry) ≡ prog-row p → Has (now (row .entry)) file (named f) → Has (now (row .entry)) item (item-row (i-fn g)) → Has (now (row .entry)) name (named x) → FindsCalled (now (row .entry)) (called p f g x) r) ⌝ }
 {
-    let names = names_of(row, item);
-    match find_own(row, names.place, names.count, name) {
+    match own_in(row, item, name) {
         Some(_) => None,
         None => resolve(row, file, name),
     }
 }
 
 // The parameters of an item, if it is a function.
-fn params_at(row: &[u32], item: usize) -> Option<Listed>
+pub fn params_at(row: &[u32], item: usize) -> Option<Listed>
     ensures { λ r. ⌜ ((i : Item) → Has (now (row .entry)) item (item-row i) → FindsParams (now (row .entry)) (item-params i) r) ⌝ }
 {
     if at(row, item) == 4 {

@@ -8,7 +8,7 @@ ghost use Rattle.language.specs.Words.{bit};
 ghost use Rattle.language.specs.Checks.{once};
 ghost use Rattle.rows.specs.Has.{Has, named};
 ghost use Rattle.rows.specs.Trees.{Local, list-row, local-row};
-ghost use Rattle.names.specs.Finds.{FindsOwn, local-names};
+ghost use Rattle.names.specs.Finds.{FindsOwn, slots-in, local-names};
 use crate::found::Own;
 use rows::read::at;
 use rows::read::past_name;
@@ -30,7 +30,7 @@ fn either(yes: bool, a: usize, b: usize) -> usize
 
 // A name among n that stand from a place on.
 pub fn find_own(row: &[u32], place: usize, n: usize, name: usize) -> Option<Own>
-    ensures { λ r. ⌜ ((ls : List Local) (x : Name) → Has (now (row .entry)) place (list-row local-row ls) → length ls ≡ n → Has (now (row .entry)) name (named x) → FindsOwn ls x r) ⌝ }
+    ensures { λ r. ⌜ ((ls : List Local) (x : Name) → Has (now (row .entry)) place (list-row local-row ls) → length ls ≡ n → Has (now (row .entry)) name (named x) → FindsOwn (slots-in ls) x r) ⌝ }
 {
     let mut at_entry = place;
     let mut words = 0;

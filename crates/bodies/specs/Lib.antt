@@ -1,0 +1,3 @@
+-- What parsing code answers.
+pub mod Outcome
+pub mod Parts

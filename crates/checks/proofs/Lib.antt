@@ -1,3 +1,0 @@
--- Lemmas for the checks that need look-ups.
-pub mod Lists
-pub mod SameKinds

@@ -1,1 +1,0 @@
--- Nothing more than the crates below state.
