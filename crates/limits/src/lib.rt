@@ -10,6 +10,7 @@ mod whole;
 pub use differ::files_once;
 pub use differ::names_once;
 pub use items::item_fits;
+pub use pass::past_file;
 pub use stages::stage;
 pub use totals::totals_fit;
 pub use whole::checks_split;

@@ -55,7 +55,7 @@ pub(super) fn past_locals(row: &[u32], place: usize, n: usize) -> usize
 }
 
 // The place behind a file.
-pub(super) fn past_file(row: &[u32], file: usize) -> usize
+pub fn past_file(row: &[u32], file: usize) -> usize
     ensures { λ r. ⌜ ((f : File) → Has (now (row .entry)) file (file-row f) → r ≡ file + length (file-row f)) ⌝ }
 {
     let head = past_name(row, file);
