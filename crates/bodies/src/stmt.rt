@@ -39,7 +39,7 @@ fn ex_semi<'a>(text: &'a [u8], out: &mut Row) -> Result<&'a [u8], Refused>
 // The same, and a word that says what it is for.
 fn with_semi<'a>(text: &'a [u8], tag: u32, out: &mut Row) -> Result<&'a [u8], Refused>
     requires ready { ⌜ Ready 0 (now text) (now out) ⌝ }
-    ensures { λ r. ⌜ Parsed 0 (exEnd (pieces gap (now (text .entry)))) (λ e. (expr-row false) e ++ (tag ∷ [])) (now (text .entry)) (now (out .entry)) (now (out .exit)) r ⌝ }
+    ensures { λ r. ⌜ Parsed 0 (exEnd (pieces gap (now (text .entry)))) (λ e. expr-row false e ++ (tag ∷ [])) (now (text .entry)) (now (out .entry)) (now (out .exit)) r ⌝ }
 {
     let rest = climb(text, 0, out)?;
     let Some(rest) = eat(rest, b';') else {

@@ -67,8 +67,16 @@ fn node_fault(row: &[u32], file: usize, item: usize, node: usize) -> Option<What
     let name = node.saturating_add(1);
     let called = node.saturating_add(2);
     match tag {
-        0 => if at(row, called) != 0 { Some(What::NumberTooLarge) } else { None },
-        1 | 26 => if kind_in(row, file, item, name) == NO_KIND { Some(What::UnknownName) } else { None },
+        0 => if at(row, called) != 0 {
+            Some(What::NumberTooLarge)
+        } else {
+            None
+        },
+        1 | 26 => if kind_in(row, file, item, name) == NO_KIND {
+            Some(What::UnknownName)
+        } else {
+            None
+        },
         7 | 8 | 13 => match kind_in(row, file, item, name) {
             1 | 2 => None,
             0 => Some(What::WrongKind),
@@ -94,7 +102,11 @@ fn node_fault(row: &[u32], file: usize, item: usize, node: usize) -> Option<What
 // Where the name of a node stands in the row.
 fn name_of_node(row: &[u32], node: usize) -> usize {
     let tag = at(row, node);
-    if tag == 9 || tag == 10 { node.saturating_add(2) } else { node.saturating_add(1) }
+    if tag == 9 || tag == 10 {
+        node.saturating_add(2)
+    } else {
+        node.saturating_add(1)
+    }
 }
 
 // What is wrong with a function's body; the text begins with the function.
@@ -137,7 +149,14 @@ fn body_problem(whole: &[u8], text: &[u8], row: &[u32], file: usize, item: usize
 }
 
 // What is wrong with an item, if anything; so many items stand before it.
-fn item_problem(whole: &[u8], row: &[u32], pile: &mut [u32], file: usize, item: usize, before: usize) -> Option<Problem>
+fn item_problem(
+    whole: &[u8],
+    row: &[u32],
+    pile: &mut [u32],
+    file: usize,
+    item: usize,
+    before: usize,
+) -> Option<Problem>
     requires { ⌜ length (now row) ≤ length (now pile) ⌝ }
 {
     let text = from_item(whole, before);
@@ -161,7 +180,11 @@ fn item_problem(whole: &[u8], row: &[u32], pile: &mut [u32], file: usize, item: 
     }
     Some(Problem {
         at: offset(whole, text),
-        what: if kind == TABLE { What::TableUnlike } else { What::NotThere },
+        what: if kind == TABLE {
+            What::TableUnlike
+        } else {
+            What::NotThere
+        },
     })
 }
 
@@ -182,7 +205,13 @@ fn comes_again(row: &[u32], item: usize, follow: usize) -> Option<usize> {
 }
 
 // What is wrong with the items of a file, if anything; so many items stand before it.
-fn file_problem(whole: &[u8], row: &[u32], pile: &mut [u32], file: usize, before: usize) -> Option<Problem>
+fn file_problem(
+    whole: &[u8],
+    row: &[u32],
+    pile: &mut [u32],
+    file: usize,
+    before: usize,
+) -> Option<Problem>
     requires { ⌜ length (now row) ≤ length (now pile) ⌝ }
 {
     let head = past_name(row, file);
@@ -233,6 +262,10 @@ pub fn check_problem(whole: &[u8], row: &[u32], pile: &mut [u32]) -> Problem
     }
     Problem {
         at: 0,
-        what: if totals_fit(row) { What::NoMain } else { What::TooManyElements },
+        what: if totals_fit(row) {
+            What::NoMain
+        } else {
+            What::TooManyElements
+        },
     }
 }

@@ -6,6 +6,7 @@ ghost use Rattle.std.specs.Vec.{made};
 use front::Reading;
 use front::read;
 use parser::parse;
+use pieces::refused::Reason;
 use pieces::refused::Refused;
 use rows::row::Row;
 
@@ -16,6 +17,9 @@ pub mod problem;
 use checking::check_problem;
 use problem::Problem;
 use problem::What;
+
+// Bytes of a text at most.
+const MOST_BYTES: usize = 32768;
 
 // Writes the row of a text, and says how many words it has; or where and why there is none.
 fn parse_row(text: &[u8], words: &mut [u32]) -> Result<usize, Refused>
@@ -41,7 +45,10 @@ fn find_problem(text: &[u8], work: &mut [u32]) -> Problem {
     match parse_row(text, words) {
         Ok(n) => check_problem(text, &words[..n], pile),
         Err(refused) => Problem {
-            at: text.len().saturating_sub(refused.left),
+            at: match refused.reason {
+                Reason::TextTooLong => MOST_BYTES,
+                _ => text.len().saturating_sub(refused.left),
+            },
             what: What::Reads(refused.reason),
         },
     }

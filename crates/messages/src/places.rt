@@ -45,7 +45,8 @@ fn is_name_at(piece: Piece, row: &[u32], place: usize) -> bool {
 
 // The byte offset of the first piece of what is left of a text.
 pub fn offset(text: &[u8], rest: &[u8]) -> usize {
-    text.len().saturating_sub(refuse(rest, Reason::ExpectedItem).left)
+    text.len()
+        .saturating_sub(refuse(rest, Reason::ExpectedItem).left)
 }
 
 // The text from an item on, by how many items stand before it in all files.

@@ -1,24 +1,21 @@
 -- The loop over the nodes of a body: what is left of them, and the pile, give what all of them give.
-use mathlib.Core.Path.{_≡_, refl, sym, ap, ap₂, subst, _∙_}
-use mathlib.Core.Bool.{Bool, true, false, _&&_}
+use mathlib.Core.Path.{_≡_, refl, sym, ap, _∙_}
+use mathlib.Core.Bool.{Bool, true, false}
 use mathlib.Core.List.{List, [], _∷_, _++_}
 use mathlib.Core.Option.{Option, some, none}
 use Prim.Native.Nat.{ℕ, zero, suc, _+_, _-_, _≤_, _<_, min}
 use native.Mathlib.Omega.{arith}
-use lib.ListN.{length, getD, take, length-append}
+use lib.ListN.{length, getD, length-append}
 use lib.Dec.{eqb}
-use borrow.Author.Tests.{eq-eqb, ne-eqb}
-use Rattle.language.specs.Syntax.{pick, Name, Expr, num, var, bin, un, and1, or1, idx, len, call, by-table, input, Exprs, no as none-left, and-then, Stmt, set1, store1, ex1, out1, if1, while1, ret1, break1, next1, Block, end, seq1, Kind, Fn, i-fn, Prog}
+use Rattle.language.specs.Syntax.{pick, Name, Expr, num, var, bin, un, and1, or1, idx, len, call, by-table, input, Exprs, no as none-left, and-then, Stmt, set1, store1, ex1, out1, if1, while1, ret1, break1, next1, Block, end, seq1, Kind, Fn, Prog}
 use Rattle.language.specs.Meaning.{on-some}
 use Rattle.language.specs.Checks.{okB}
 use Rattle.rows.specs.Has.{Has, named}
 use Rattle.rows.specs.Nodes.{Node, nodesE, nodesEs, nodesS, nodesBs, nodesB, node-row, nodes-row, body-row, count, n-num, n-var, n-bin, n-and, n-or, n-join, n-un, n-idx, n-len, n-call, n-by, n-in, n-set, n-store, n-ex, n-out, n-if, n-else, n-fi, n-loop, n-while, n-again, n-ret, n-break, n-next, n-end, n-arg}
-use Rattle.rows.specs.Trees.{Local, list-row, locals, local-row, item-row}
-use Rattle.rows.proofs.Having.{has-word, has-left, has-right, has-to, has-as}
+use Rattle.rows.specs.Trees.{Local, list-row, locals, local-row}
+use Rattle.rows.proofs.Having.{has-left, has-right, has-to, has-as}
 use Rattle.rows.proofs.TreeNodes.{bodies-nodes}
-use Rattle.names.specs.declared.found.Listed.{Listed}
 use Rattle.names.specs.Fold.{Ctx, ctx, less, step, deep, run}
-use Rattle.names.specs.Kinds.{IsListed}
 use Rattle.names.specs.Effects.{deeper}
 use Rattle.names.specs.Pile.{Piled, Remains}
 use Rattle.names.proofs.OwnNames.{first-name}

@@ -1,9 +1,9 @@
 -- A tree's nodes, run over a pile, are the tree's check.
-use mathlib.Core.Path.{_≡_, refl, sym, ap, ap₂, subst, _∙_}
-use mathlib.Core.Bool.{Bool, true, false, _&&_, not}
+use mathlib.Core.Path.{_≡_, refl, sym, ap, ap₂, _∙_}
+use mathlib.Core.Bool.{Bool, true, false, _&&_}
 use mathlib.Core.List.{List, [], _∷_, _++_, append-nil, append-assoc}
 use mathlib.Core.Option.{Option, some, none}
-use Prim.Native.Nat.{ℕ, zero, suc, _+_, _-_}
+use Prim.Native.Nat.{ℕ, suc, _-_}
 use native.Mathlib.Omega.{arith}
 use lib.ListN.{length, take, drop, length-append}
 use lib.Dec.{ltb, leb}
@@ -12,9 +12,9 @@ use Rattle.std.proofs.shelf.Lists.{take-at, drop-at}
 use Rattle.language.specs.Syntax.{pick, opt, Name, Expr, num, var, bin, un, and1, or1, idx, len, call, by-table, input, Exprs, no, and-then, Stmt, set1, store1, ex1, out1, if1, while1, ret1, break1, next1, Block, end, seq1, Kind, k-word, k-arr, Param, Fn, Prog}
 use Rattle.language.specs.Words.{all}
 use Rattle.language.specs.Meaning.{on-some}
-use Rattle.language.specs.Checks.{same-k, kind-of, is-kind, any-arr, names-arr, fits-arg, first-k, rest-k, no-more, params-of, params-table, okE, okEs, okS, okB}
-use Rattle.rows.specs.Nodes.{Node, nodesE, nodesEs, nodesS, nodesBs, nodesB, count, n-num, n-var, n-bin, n-and, n-or, n-join, n-un, n-idx, n-len, n-call, n-by, n-in, n-set, n-store, n-ex, n-out, n-if, n-else, n-fi, n-loop, n-while, n-again, n-ret, n-break, n-next, n-end, n-arg}
-use Rattle.names.specs.Fold.{Ctx, ctx, kinds, fit, eat, push, if-so, one, inside, step, run}
+use Rattle.language.specs.Checks.{same-k, kind-of, is-kind, any-arr, names-arr, fits-arg, params-of, params-table, okE, okEs, okS, okB}
+use Rattle.rows.specs.Nodes.{Node, nodesE, nodesEs, nodesS, nodesBs, nodesB, count, n-bin, n-and, n-or, n-join, n-un, n-idx, n-call, n-by, n-set, n-store, n-ex, n-out, n-if, n-else, n-fi, n-while, n-again, n-ret, n-end}
+use Rattle.names.specs.Fold.{ctx, kinds, fit, eat, push, if-so, one, inside, step, run}
 
 -- what an expression leaves on the pile
 abbrev pub word-if : Bool → Option Kind

@@ -9,3 +9,4 @@ pub mod NodeEffects
 pub mod Piles
 pub mod BodyNodes
 pub mod Referring
+pub mod Referents

@@ -1,15 +1,15 @@
 -- Names, items and files passed one by one: the loops that look for a name in a list, for the use of a name, for a file.
-use mathlib.Core.Path.{_≡_, refl, sym, ap, ap₂, subst, _∙_}
-use mathlib.Core.Bool.{Bool, true, false, _&&_, _||_}
-use mathlib.Core.List.{List, [], _∷_, _++_, append-nil}
-use mathlib.Core.Option.{Option, some, none}
-use Prim.Native.Nat.{ℕ, suc, _+_, _-_, _≤_, _<_, min}
+use mathlib.Core.Path.{_≡_, refl, sym, ap, subst, _∙_}
+use mathlib.Core.Bool.{Bool, true, false, _||_}
+use mathlib.Core.List.{List, [], _∷_, append-nil}
+use mathlib.Core.Option.{some, none}
+use Prim.Native.Nat.{ℕ, _+_, _≤_, _<_, min}
 use native.Mathlib.Omega.{arith}
 use lib.ListN.{length, getD, drop, length-append}
 use Rattle.language.specs.Syntax.{pick, Name, same, listed, Item, i-word, i-arr, i-data, i-table, i-fn, i-use, Prog}
 use Rattle.language.specs.Meaning.{used-in, items-of}
 use Rattle.rows.specs.Has.{Has, named}
-use Rattle.rows.specs.Trees.{list-row, item-no, name-of, rest-row, item-row, file-row, prog-row}
+use Rattle.rows.specs.Trees.{list-row, name-of, rest-row, item-row, file-row, prog-row}
 use Rattle.rows.proofs.Having.{has-word, has-next, has-left, has-right, has-to}
 use Rattle.names.specs.Finds.{uses, IsName, IsItems}
 use Rattle.names.proofs.Searching.{item-name, item-tail, file-parts}

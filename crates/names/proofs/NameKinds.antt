@@ -1,12 +1,11 @@
 -- A function's names as one list, their kinds, and the parameters of what is called.
 use mathlib.Core.Path.{_≡_, refl, sym, ap, ap₂, subst, _∙_}
-use mathlib.Core.Bool.{Bool, true, false, _&&_, _||_}
+use mathlib.Core.Bool.{Bool, true, false, _||_}
 use mathlib.Core.List.{List, [], _∷_, _++_, append-assoc}
 use mathlib.Core.Option.{Option, some, none}
 use Prim.Native.Nat.{ℕ, suc, _+_, _≤_, _<_, min}
 use native.Mathlib.Omega.{arith}
 use lib.ListN.{length, getD, length-append}
-use lib.Dec.{eqb}
 use Rattle.std.specs.declared.option.Option as std
 use Rattle.std.specs.declared.option.Option.the-variants.{Some, None}
 use Rattle.language.specs.Syntax.{pick, opt, Name, same, listed, Kind, k-word, k-arr, Param, Arr, Fn, Item, i-word, i-arr, i-data, i-table, i-fn, i-use, Prog}
@@ -16,8 +15,8 @@ use Rattle.language.specs.Checks.{in-params, in-arrs, kind-of, kind-is, is-loca
 use Rattle.steps.specs.Generate.{Slot, w-slot, a-slot, Ref, find, slot-of, arr-slots, var-slots, slots-from, slots-of}
 use Rattle.rows.specs.Has.{Has, named}
 use Rattle.rows.specs.Nodes.{body-row}
-use Rattle.rows.specs.Trees.{Local, list-row, map-list, kind-no, of-param, of-var, of-array, locals, local-row, fn-row, item-no, name-of, tail-row, item-row, prog-row}
-use Rattle.rows.proofs.Having.{has-word, has-next, has-left, has-right, has-to, has-as}
+use Rattle.rows.specs.Trees.{Local, list-row, map-list, kind-no, of-param, of-var, of-array, locals, local-row, fn-row, item-no, name-of, tail-row, item-row}
+use Rattle.rows.proofs.Having.{has-word, has-next, has-left, has-to, has-as}
 use Rattle.names.specs.declared.found.Spot.{Spot}
 use Rattle.names.specs.declared.found.Listed.{Listed}
 use Rattle.names.specs.declared.found.Own.{Own}

@@ -2,30 +2,29 @@
 use mathlib.Core.Path.{_≡_, refl, sym, ap, ap₂, subst, _∙_}
 use mathlib.Core.Bool.{Bool, true, false, _&&_, _||_, not}
 use mathlib.Core.Logic.{_⊎_, inl, inr}
-use mathlib.Core.List.{List, [], _∷_, _++_, append-nil}
+use mathlib.Core.List.{List, [], _∷_, _++_}
 use mathlib.Core.Option.{Option, some, none}
-use Prim.Native.Nat.{ℕ, zero, suc, _+_, _-_, _/_, _%_, _≤_, _<_, min}
+use Prim.Native.Nat.{ℕ, zero, suc, _+_, _-_, _/_, _<_, min}
 use native.Mathlib.Omega.{arith}
 use lib.ListN.{length, getD, take, drop, replicate, length-append}
 use lib.Dec.{eqb, ltb, leb}
-use borrow.Author.Tests.{lt-ltb, le-ltb, le-leb, lt-leb, leb-true, eq-eqb, ne-eqb}
+use borrow.Author.Tests.{lt-ltb, le-ltb, le-leb, leb-true, eq-eqb, ne-eqb}
 use Rattle.std.proofs.shelf.Lists.{take-all, drop-all, length-drop}
 use Rattle.std.proofs.shelf.Tests.{cases-eq}
 use Rattle.std.specs.declared.option.Option as std
-use Rattle.std.specs.declared.option.Option.the-variants.{Some, None}
 use Rattle.language.specs.Syntax.{pick, Name, Kind, k-word, k-arr, Param}
 use Rattle.language.specs.Words.{all}
 use Rattle.language.specs.Meaning.{on-some}
 use Rattle.language.specs.Checks.{same-k, is-kind, any-arr}
 use Rattle.rows.specs.Has.{Has, named}
 use Rattle.rows.specs.Nodes.{Node, node-row, n-num, n-var, n-bin, n-and, n-or, n-join, n-un, n-idx, n-len, n-call, n-by, n-in, n-set, n-store, n-ex, n-out, n-if, n-else, n-fi, n-loop, n-while, n-again, n-ret, n-break, n-next, n-end, n-arg}
-use Rattle.rows.specs.Trees.{Local, list-row, local-row, map-list, of-param}
+use Rattle.rows.specs.Trees.{map-list, of-param}
 use Rattle.rows.proofs.Having.{has-word, has-next, has-to}
 use Rattle.names.specs.declared.found.Listed.{Listed}
 use Rattle.names.specs.declared.found.Effect.{Effect}
-use Rattle.names.specs.Fold.{Ctx, kinds, fit, eat, push, if-so, one, inside, less, step, deep}
-use Rattle.names.specs.Kinds.{kind-or, IsListed, FindsParams}
-use Rattle.names.specs.Effects.{takes, gives, wants-kind, suits, stands, deeper, give, local-kinds, nowhere, Does, Asks}
+use Rattle.names.specs.Fold.{Ctx, kinds, fit, eat, push, if-so, one, inside, step}
+use Rattle.names.specs.Kinds.{kind-or, IsListed}
+use Rattle.names.specs.Effects.{takes, gives, wants-kind, suits, stands, give, local-kinds, nowhere, Does, Asks}
 use Rattle.names.proofs.NameKinds.{map-length}
 
 unfoldable pub tag-of : Node → ℕ

@@ -1,9 +1,9 @@
 -- A function's own names passed one by one: the loops that look one up and that see whether each stands once.
-use mathlib.Core.Path.{_≡_, refl, sym, ap, ap₂, subst, _∙_}
+use mathlib.Core.Path.{_≡_, refl, sym, ap, ap₂, _∙_}
 use mathlib.Core.Bool.{Bool, true, false, _&&_, _||_, not}
-use mathlib.Core.List.{List, [], _∷_, _++_}
+use mathlib.Core.List.{List, [], _∷_}
 use mathlib.Core.Option.{Option, some, none}
-use Prim.Native.Nat.{ℕ, suc, _+_, _-_, _≤_, _<_, min}
+use Prim.Native.Nat.{ℕ, _+_, _≤_, _<_, min}
 use native.Mathlib.Omega.{arith}
 use lib.ListN.{length, getD}
 use lib.Dec.{eqb}
@@ -14,7 +14,6 @@ use Rattle.steps.specs.Generate.{Slot, Ref, r-word, r-arr, find, slot-of}
 use Rattle.rows.specs.Has.{Has, named}
 use Rattle.rows.specs.Trees.{Local, list-row, kind-no, local-row}
 use Rattle.rows.proofs.Having.{has-word, has-next, has-left, has-right, has-to}
-use Rattle.names.specs.declared.found.Own.{Own}
 use Rattle.names.specs.Finds.{slots-in, local-names, ref-kind, ref-index, IsOwn}
 
 -- whether a kind's number is that of words, or of arrays

@@ -1,9 +1,9 @@
 -- Kinds of the pile compared one by one, and what a node leaves of the pile.
 use mathlib.Core.Path.{_≡_, refl, sym, ap, ap₂, subst, _∙_}
-use mathlib.Core.Bool.{Bool, true, false, _&&_, not}
+use mathlib.Core.Bool.{Bool, true, false, _&&_}
 use mathlib.Core.List.{List, [], _∷_, _++_}
 use mathlib.Core.Option.{Option, some, none}
-use Prim.Native.Nat.{ℕ, zero, suc, _+_, _-_, _≤_, _<_, min}
+use Prim.Native.Nat.{ℕ, _+_, _-_, _≤_, _<_, min}
 use native.Mathlib.Omega.{arith}
 use lib.ListN.{length, getD, take, drop, set, replicate, length-append, length-take, length-drop, length-set, length-replicate, take-append-drop}
 use lib.Dec.{eqb, leb}
@@ -17,7 +17,7 @@ use Rattle.rows.specs.Trees.{Local, list-row, local-row, map-list, kind-no}
 use Rattle.rows.proofs.Having.{has-word, has-next, has-left, has-right, has-to, has-as}
 use Rattle.names.specs.declared.found.Listed.{Listed}
 use Rattle.names.specs.declared.found.Effect.{Effect}
-use Rattle.names.specs.Fold.{Ctx, fit, eat, push, if-so, step}
+use Rattle.names.specs.Fold.{Ctx, fit, eat, if-so, step}
 use Rattle.names.specs.Kinds.{kind-or, IsListed}
 use Rattle.names.specs.Effects.{give, local-kinds, Does}
 use Rattle.names.specs.Pile.{Piled, Remains}

@@ -1,18 +1,18 @@
 -- Items passed one by one, and what each refers to.
-use mathlib.Core.Path.{_≡_, refl, sym, ap, ap₂, subst, _∙_}
-use mathlib.Core.Bool.{Bool, true, false, _&&_, _||_, not}
+use mathlib.Core.Path.{_≡_, refl, sym, ap, _∙_}
+use mathlib.Core.Bool.{Bool, true, false, _&&_}
 use mathlib.Core.List.{List, [], _∷_, _++_, append-nil}
 use mathlib.Core.Option.{Option, some, none}
-use Prim.Native.Nat.{ℕ, suc, _+_, _≤_, _<_, min}
+use Prim.Native.Nat.{ℕ, _+_, _≤_, _<_, min}
 use native.Mathlib.Omega.{arith}
-use lib.ListN.{length, getD, drop, length-append}
+use lib.ListN.{length, getD, drop}
 use lib.Dec.{eqb}
 use borrow.Author.Tests.{eq-eqb, ne-eqb}
-use Rattle.language.specs.Syntax.{pick, opt, Name, same, Kind, Param, Arr, Fn, Item, i-word, i-arr, i-data, i-table, i-fn, i-use, Prog}
+use Rattle.language.specs.Syntax.{opt, Name, same, Param, Arr, Fn, Item, i-word, i-arr, i-data, i-table, i-fn, i-use, Prog}
 use Rattle.language.specs.Meaning.{on-some, Top, top-of, all-tops, as-fn, first-file, w-main}
-use Rattle.language.specs.Checks.{same-k, no-more, has-main, once, param-names, arr-names, okB, fn-named, same-ps, head-fn, alike, all-there}
+use Rattle.language.specs.Checks.{same-k, no-more, has-main, param-names, arr-names, fn-named, same-ps, head-fn, alike, all-there}
 use Rattle.rows.specs.Has.{Has, named}
-use Rattle.rows.specs.Trees.{Local, list-row, map-list, kind-no, of-param, of-var, of-array, locals, local-row, item-no, name-of, tail-row, rest-row, item-row, file-row, prog-row}
+use Rattle.rows.specs.Trees.{Local, list-row, map-list, kind-no, of-param, of-var, of-array, locals, local-row, name-of, tail-row, rest-row, item-row, file-row, prog-row}
 use Rattle.rows.proofs.Having.{has-word, has-next, has-left, has-right, has-to}
 use Rattle.std.specs.declared.option.Option as std
 use Rattle.names.specs.declared.found.Spot.{Spot}

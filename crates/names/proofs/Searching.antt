@@ -3,9 +3,9 @@ use mathlib.Core.Path.{_≡_, refl, sym, ap, ap₂, subst, _∙_}
 use mathlib.Core.Bool.{Bool, true, false, _&&_, _||_, not}
 use mathlib.Core.List.{List, [], _∷_, _++_, append-nil, append-assoc}
 use mathlib.Core.Option.{Option, some, none}
-use Prim.Native.Nat.{ℕ, suc, _+_, _-_, _≤_, _<_, min}
+use Prim.Native.Nat.{ℕ, suc, _+_, _≤_, _<_, min}
 use native.Mathlib.Omega.{arith}
-use lib.ListN.{length, getD, drop, length-append}
+use lib.ListN.{length, getD, drop}
 use lib.Dec.{eqb}
 use Rattle.language.specs.Syntax.{pick, opt, Name, same, Item, i-word, i-arr, i-data, i-table, i-fn, i-use, File, Prog}
 use Rattle.language.specs.Words.{bit}
@@ -15,7 +15,7 @@ use Rattle.rows.specs.Has.{Has, named}
 use Rattle.rows.specs.Trees.{list-row, item-no, name-of, tail-row, rest-row, item-row, file-row, prog-row}
 use Rattle.rows.proofs.Having.{has-word, has-next, has-left, has-right, has-to, has-as}
 use Rattle.names.specs.declared.found.Spot.{Spot}
-use Rattle.names.specs.Finds.{top-in, fns-in, tables-in, IsTop, TopAt, Passes, Counted}
+use Rattle.names.specs.Finds.{top-in, fns-in, tables-in, TopAt, Passes, Counted}
 
 -- a top more, if it is one
 abbrev pub and-top : Option Top → List Top → List Top

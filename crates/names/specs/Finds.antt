@@ -2,7 +2,7 @@
 use mathlib.Core.Path.{_≡_}
 use mathlib.Core.List.{List, [], _∷_}
 use mathlib.Core.Option.{Option, some, none}
-use mathlib.Core.Bool.{Bool, true, false, _&&_, not}
+use mathlib.Core.Bool.{Bool, false}
 use Prim.Native.Nat.{ℕ, _+_, _≤_}
 use lib.ListN.{length}
 use lib.Dec.{eqb}
@@ -10,7 +10,7 @@ use Rattle.std.specs.Options.{Cases}
 use Rattle.std.specs.declared.option.Option as std
 use Rattle.names.specs.declared.found.Spot.{Spot}
 use Rattle.names.specs.declared.found.Own.{Own}
-use Rattle.language.specs.Syntax.{opt, Name, same, listed, Kind, k-word, k-arr, Item, i-word, i-arr, i-data, i-table, i-fn, i-use, Prog}
+use Rattle.language.specs.Syntax.{Name, listed, Kind, k-word, k-arr, Item, i-word, i-arr, i-data, i-table, i-fn, i-use, Prog}
 use Rattle.language.specs.Meaning.{Top, top-of, resolve, as-fn, as-table, words-in, arrays-in, is-word, is-arr, is-table, is-fn}
 use Rattle.steps.specs.Generate.{Slot, Ref, r-word, r-arr, find, slot-of, pos, number}
 use Rattle.rows.specs.Has.{Has, named}

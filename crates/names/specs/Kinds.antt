@@ -1,6 +1,6 @@
 -- What names are in a function: their kinds by numbers, and the parameters of what is called, as names that stand in the row.
 use mathlib.Core.Path.{_≡_}
-use mathlib.Core.List.{List, []}
+use mathlib.Core.List.{List}
 use mathlib.Core.Option.{Option, some, none}
 use Prim.Native.Nat.{ℕ}
 use lib.ListN.{length}

@@ -5,3 +5,4 @@ pub mod Kinds
 pub mod Effects
 pub mod Pile
 pub mod Resolved
+pub mod Refer

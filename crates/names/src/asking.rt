@@ -1,11 +1,9 @@
-// What a node of a body asks of the pile of kinds and gives to it.
+// What a node of a body asks of the pile of kinds and gives to it. Nodes are told by their tags: 0 a number, 1 and 26 a variable, 7 a[i],
+// 8 len(a), 9 and 10 calls, 12 and 13 a word and an element set, 19 and 21 around a loop, 23 and 24 break and continue, 25 the end.
 ghost use mathlib.Core.Path.{_≡_};
-ghost use mathlib.Core.Bool.{_||_, not};
 ghost use mathlib.Core.List.{List};
 ghost use mathlib.Core.Option.{Option};
-ghost use Prim.Native.Nat.{ℕ, _+_, _<_, _≤_};
-ghost use lib.ListN.{length, getD};
-ghost use lib.Dec.{eqb};
+ghost use Prim.Native.Nat.{ℕ};
 ghost use Rattle.language.specs.Syntax.{Name, Fn, i-fn, Param, Prog};
 ghost use Rattle.rows.specs.Has.{Has, named};
 ghost use Rattle.rows.specs.Nodes.{Node, node-row};

@@ -2,7 +2,7 @@
 ghost use mathlib.Core.Path.{_≡_};
 ghost use mathlib.Core.Bool.{false};
 ghost use mathlib.Core.List.{List};
-ghost use Prim.Native.Nat.{ℕ, _+_, _<_, _≤_};
+ghost use Prim.Native.Nat.{_+_, _<_, _≤_};
 ghost use lib.ListN.{length};
 ghost use Rattle.std.specs.Options.{Cases};
 ghost use Rattle.language.specs.Syntax.{Name, Kind, Fn, i-fn, Prog};
@@ -43,7 +43,7 @@ pub fn body_of(row: &[u32], item: usize) -> usize
 }
 
 // What the node at a place leaves of the pile, in a function that is an item of a file.
-pub fn check_node(
+fn check_node(
     row: &[u32],
     file: usize,
     item: usize,

@@ -1,14 +1,15 @@
-// Names at the top of the files looked up in a program's row.
+// Names at the top of the files looked up in a program's row. Items are told by their numbers: 0 a word, 1 and 2 an array, 3 a table,
+// 4 a function, 5 a use.
 ghost use mathlib.Core.Path.{_≡_};
 ghost use mathlib.Core.Bool.{_&&_, not};
 ghost use mathlib.Core.List.{List, _∷_};
-ghost use Prim.Native.Nat.{ℕ, _+_, _<_, _≤_};
+ghost use Prim.Native.Nat.{_+_, _<_};
 ghost use lib.ListN.{length};
 ghost use lib.Dec.{eqb};
-ghost use Rattle.language.specs.Syntax.{Name, same, listed, Item, File, Prog};
+ghost use Rattle.language.specs.Syntax.{Name, same, listed, Item, Prog};
 ghost use Rattle.language.specs.Meaning.{all-tops, used-in, items-of};
 ghost use Rattle.rows.specs.Has.{Has, named};
-ghost use Rattle.rows.specs.Trees.{list-row, item-no, name-of, item-row, file-row, prog-row};
+ghost use Rattle.rows.specs.Trees.{list-row, item-no, name-of, item-row, prog-row};
 ghost use Rattle.names.specs.Finds.{FindsTop, FindsItems, FindsUse, Resolves, Passes, Counted, uses};
 use crate::found::Spot;
 use crate::own::more;

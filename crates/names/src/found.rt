@@ -34,3 +34,14 @@ pub struct Effect {
     pub params: Listed,
     pub gives: usize,
 }
+
+// What a name stands for where a word or an array is wanted: the function's own with this number, or that of the top; an array of words (true)
+// or of bytes; else something other.
+#[derive(Clone, Copy)]
+pub enum Reference {
+    OwnWord(usize),
+    OwnArray(usize, bool),
+    TopWord(usize),
+    TopArray(usize, bool),
+    Other,
+}

@@ -1,11 +1,11 @@
 // What the items of a program's files refer to: functions of tables, names that are used, bodies of functions.
 ghost use mathlib.Core.Path.{_≡_};
-ghost use mathlib.Core.Bool.{false, _&&_, not};
+ghost use mathlib.Core.Bool.{false};
 ghost use mathlib.Core.List.{List, _∷_, _++_};
 ghost use mathlib.Core.Option.{Option};
-ghost use Prim.Native.Nat.{ℕ, _+_, _<_, _≤_};
+ghost use Prim.Native.Nat.{ℕ, _<_, _≤_};
 ghost use lib.ListN.{length};
-ghost use Rattle.language.specs.Syntax.{opt, Name, same, Param, Fn, Item, i-fn, i-use, Prog};
+ghost use Rattle.language.specs.Syntax.{opt, Name, same, Param, Fn, Item, i-fn, Prog};
 ghost use Rattle.language.specs.Meaning.{all-tops};
 ghost use Rattle.language.specs.Checks.{once, param-names, arr-names, head-fn, alike, all-there, no-more, has-main};
 ghost use Rattle.rows.specs.Has.{Has, named};
@@ -95,7 +95,7 @@ fn are_alike(row: &[u32], file: usize, params: Listed, place: usize) -> bool
 }
 
 // Whether the functions of a table, which are named behind their number, have the same kinds of parameters.
-pub fn check_table(row: &[u32], file: usize, place: usize) -> bool
+fn check_table(row: &[u32], file: usize, place: usize) -> bool
     ensures { λ r. ⌜ ((p : Prog) (f : Name) (xs : List Name) → now (row .entry) ≡ prog-row p → Has (now (row .entry)) file (named f) → Has (now (row .entry)) place (length xs ∷ list-row named xs) → r ≡ opt (head-fn p f xs) false (λ qs. alike p f qs xs)) ⌝ }
 {
     match params_first(row, file, place) {
@@ -115,7 +115,7 @@ fn is_there(row: &[u32], file: usize, name: usize) -> bool
 }
 
 // Whether all names that stand behind their number stand at the top of a file itself.
-pub fn are_there(row: &[u32], file: usize, place: usize) -> bool
+fn are_there(row: &[u32], file: usize, place: usize) -> bool
     ensures { λ r. ⌜ ((p : Prog) (y : Name) (xs : List Name) → now (row .entry) ≡ prog-row p → Has (now (row .entry)) file (named y) → Has (now (row .entry)) place (length xs ∷ list-row named xs) → r ≡ all-there (all-tops p 0 0) y xs) ⌝ }
 {
     let names = at(row, place);

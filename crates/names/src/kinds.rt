@@ -2,7 +2,7 @@
 ghost use mathlib.Core.Path.{_≡_};
 ghost use mathlib.Core.List.{List, _∷_, _++_};
 ghost use mathlib.Core.Option.{some};
-ghost use Prim.Native.Nat.{ℕ, _+_, _<_, _≤_};
+ghost use Prim.Native.Nat.{_+_, _<_};
 ghost use lib.ListN.{length};
 ghost use Rattle.language.specs.Syntax.{Name, Fn, Item, i-fn, Prog};
 ghost use Rattle.language.specs.Meaning.{on-some};
@@ -58,7 +58,7 @@ pub fn own_in(row: &[u32], item: usize, name: usize) -> Option<Own>
 }
 
 // The number of an item's kind; 3 if it has none.
-fn item_kind(row: &[u32], item: usize) -> usize
+pub fn item_kind(row: &[u32], item: usize) -> usize
     ensures { λ r. ⌜ ((i : Item) → Has (now (row .entry)) item (item-row i) → r ≡ kind-or (item-kind i)) ⌝ }
 {
     let kind = at(row, item);

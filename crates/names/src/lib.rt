@@ -6,4 +6,5 @@ pub mod found;
 pub mod items;
 pub mod kinds;
 pub mod own;
-pub mod pile;
+mod pile;
+pub mod refer;

@@ -1,7 +1,8 @@
-// A function's own names looked up: parameters, variables, own arrays, one list in the row.
+// A function's own names looked up: parameters, variables, own arrays, one list in the row. Each is its kind's number (0 a word, 1 bytes,
+// 2 words), two words of its size, and the name.
 ghost use mathlib.Core.Path.{_≡_};
 ghost use mathlib.Core.List.{List};
-ghost use Prim.Native.Nat.{ℕ, _+_, _<_, _≤_, min};
+ghost use Prim.Native.Nat.{_+_, _<_, min};
 ghost use lib.ListN.{length};
 ghost use Rattle.language.specs.Syntax.{pick, Name};
 ghost use Rattle.language.specs.Words.{bit};

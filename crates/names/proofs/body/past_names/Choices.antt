@@ -1,6 +1,5 @@
-use mathlib.Core.Path.{_≡_}
 use mathlib.Core.List.{List}
-use Prim.Native.Nat.{ℕ, _+_, _-_}
+use Prim.Native.Nat.{_+_, _-_}
 use lib.ListN.{length}
 use Rattle.rows.specs.Trees.{Local, list-row, local-row}
 use Rattle.names.specs.Kinds.{IsListed}

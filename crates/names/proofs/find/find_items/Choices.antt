@@ -1,6 +1,5 @@
 use mathlib.Core.Path.{_≡_}
-use mathlib.Core.List.{List}
-use Prim.Native.Nat.{ℕ, _-_}
+use Prim.Native.Nat.{_-_}
 use Rattle.language.specs.Syntax.{Name, Prog}
 use Rattle.rows.specs.Has.{Has, named}
 use Rattle.rows.specs.Trees.{prog-row}

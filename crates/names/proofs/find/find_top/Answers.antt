@@ -1,4 +1,4 @@
-use mathlib.Core.Path.{sym, _∙_}
+use mathlib.Core.Path.{_∙_}
 use native.Mathlib.Omega.{arith}
 use Rattle.names.proofs.Searching.{outer-none, outer-all, outer-inner, inner-outer, inner-more, inner-found}
 use Rattle.names.proofs.find.find_top.Needs as need

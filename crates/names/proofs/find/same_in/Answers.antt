@@ -1,9 +1,8 @@
-use mathlib.Core.Path.{_≡_, sym, ap, _∙_}
-use Prim.Native.Nat.{ℕ, _+_, _<_, _≤_}
+use mathlib.Core.Path.{sym, _∙_}
+use Prim.Native.Nat.{_<_}
 use native.Mathlib.Omega.{arith}
-use lib.ListN.{length, getD}
-use Rattle.language.specs.Syntax.{Name, same}
-use Rattle.rows.specs.Has.{Has, named}
+use lib.ListN.{length}
+use Rattle.rows.specs.Has.{named}
 use Rattle.rows.proofs.Having.{has-word, read-at}
 use Rattle.rows.proofs.Naming.{same-long, same-more, same-stop, same-done}
 use Rattle.names.proofs.find.same_in.Needs as need

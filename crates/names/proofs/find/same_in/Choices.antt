@@ -1,6 +1,6 @@
 use mathlib.Core.Path.{_≡_}
 use Prim.Native.Nat.{_+_, _-_, _≤_}
-use lib.ListN.{length, drop}
+use lib.ListN.{drop}
 use Rattle.language.specs.Syntax.{Name, same}
 use Rattle.rows.specs.Has.{Has, named}
 use Rattle.names.proofs.find.same_in.Given as given

@@ -1,8 +1,7 @@
 use mathlib.Core.Path.{_≡_}
 use mathlib.Core.List.{List}
-use Prim.Native.Nat.{ℕ, _+_, _-_, _≤_}
 use lib.ListN.{length}
-use Rattle.rows.specs.Has.{Has, named}
+use Rattle.rows.specs.Has.{Has}
 use Rattle.rows.specs.Trees.{Local, list-row, local-row}
 use Rattle.names.proofs.OwnNames.{Onces}
 use Rattle.names.proofs.own.all_once.Given as given
