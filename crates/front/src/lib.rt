@@ -78,3 +78,87 @@ pub fn read<'a>(text: &[u8], work: &'a mut [u32]) -> Reading<'a>
         rest,
     })
 }
+
+#[cfg(test)]
+mod tests {
+    use super::*;
+    use std::test::*;
+
+    // The stage of a text of at most 1,024 bytes that is a program.
+    fn stage_of(text: &[u8]) -> Option<u32> {
+        let mut work = [0; 81920];
+        match read(text, &mut work) {
+            Reading::Program(tree) => Some(tree.stage),
+            _ => None,
+        }
+    }
+
+    fn is_no_program(text: &[u8]) -> bool {
+        let mut work = [0; 81920];
+        match read(text, &mut work) {
+            Reading::NoProgram => true,
+            _ => false,
+        }
+    }
+
+    #[test]
+    fn tells_few_words() -> Result<(), Fail> {
+        let mut work = [0; 65551];
+        match read(b"!", &mut work) {
+            Reading::Few => Ok(()),
+            _ => check(false),
+        }
+    }
+
+    #[test]
+    fn reads_brackets_and_signs_to_their_limits() -> Result<(), Fail> {
+        // the body's own bracket is one of the 40
+        check(
+            stage_of(
+                b"file a; fn main() { return (((((((((((((((((((((((((((((((((((((((1))))))))))))))))))))))))))))))))))))))); }",
+            )
+                == Some(0),
+        )?;
+        check(is_no_program(
+            b"file a; fn main() { return ((((((((((((((((((((((((((((((((((((((((1)))))))))))))))))))))))))))))))))))))))); }",
+        ))?;
+        check(
+            stage_of(b"file a; fn main() { return ----------------------------------------1; }")
+                == Some(0),
+        )?;
+        check(is_no_program(
+            b"file a; fn main() { return -----------------------------------------1; }",
+        ))
+    }
+
+    #[test]
+    fn reads_names_and_numbers_to_their_limits() -> Result<(), Fail> {
+        check(stage_of(b"file a; var xxxxxxxxxxxxxxxxxxxxxxxxxxxxxxxx; fn main() { }") == Some(0))?;
+        check(is_no_program(b"file a; var xxxxxxxxxxxxxxxxxxxxxxxxxxxxxxxxx; fn main() { }"))?;
+        check(stage_of(b"file a; fn main() { return 4294967295; }") == Some(0))?;
+        check(is_no_program(b"file a; fn main() { return 4294967296; }"))
+    }
+
+    #[test]
+    fn refuses_what_is_no_program() -> Result<(), Fail> {
+        check(is_no_program(b""))?;
+        check(is_no_program(&[255; 300]))?;
+        check(is_no_program(b"file a; bytes b = \"abc; fn main() { }"))?;
+        check(is_no_program(b"file a; fn main() { return x; }"))?;
+        check(is_no_program(b"file a; fn main(x) { }"))?;
+        check(stage_of(b"file a; fn main() { } # a note without a line end") == Some(0))
+    }
+
+    #[test]
+    fn reads_files_that_use_one_another() -> Result<(), Fail> {
+        check(
+            stage_of(
+                b"file a; use b: g; fn f() { } fn main() { g(); } file b; use a: f; fn g() { f(); }",
+            )
+                == Some(3),
+        )?;
+        check(is_no_program(
+            b"file a; use b: f; fn main() { f(); } file b; use c: f; file c; fn f() { }",
+        ))
+    }
+}
