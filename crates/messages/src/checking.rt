@@ -14,7 +14,9 @@ use limits::names_once;
 use limits::past_file;
 use limits::totals_fit;
 use names::body::body_of;
+use names::found::Listed;
 use names::items::check_item;
+use names::items::names_differ;
 use names::kinds::kind_in;
 use names::kinds::params_of;
 use names::kinds::params_table;
@@ -56,8 +58,22 @@ fn limit_of(row: &[u32], item: usize) -> What {
         What::TooManyVariables
     } else if at(row, tail.saturating_add(2)) > 16 {
         What::TooManyArrays
+    } else if names_differ(row, item) {
+        What::SizeOutOfRange
     } else {
         What::DoubledName
+    }
+}
+
+// What is wrong with a call with so many arguments, by the parameters of what its name stands for.
+fn call_fault(params: Option<Listed>, count: usize) -> Option<What> {
+    match params {
+        Some(found) => if found.count == count {
+            None
+        } else {
+            Some(What::Arguments)
+        },
+        None => Some(What::UnknownName),
     }
 }
 
@@ -72,7 +88,12 @@ fn node_fault(row: &[u32], file: usize, item: usize, node: usize) -> Option<What
         } else {
             None
         },
-        1 | 26 => if kind_in(row, file, item, name) == NO_KIND {
+        1 | 12 => match kind_in(row, file, item, name) {
+            0 => None,
+            1 | 2 => Some(What::WrongKind),
+            _ => Some(What::UnknownName),
+        },
+        26 => if kind_in(row, file, item, name) == NO_KIND {
             Some(What::UnknownName)
         } else {
             None
@@ -82,19 +103,8 @@ fn node_fault(row: &[u32], file: usize, item: usize, node: usize) -> Option<What
             0 => Some(What::WrongKind),
             _ => Some(What::UnknownName),
         },
-        12 => match kind_in(row, file, item, name) {
-            0 => None,
-            1 | 2 => Some(What::WrongKind),
-            _ => Some(What::UnknownName),
-        },
-        9 => match params_of(row, file, item, called) {
-            Some(_) => None,
-            None => Some(What::UnknownName),
-        },
-        10 => match params_table(row, file, item, called) {
-            Some(_) => None,
-            None => Some(What::UnknownName),
-        },
+        9 => call_fault(params_of(row, file, item, called), at(row, name)),
+        10 => call_fault(params_table(row, file, item, called), at(row, name)),
         _ => None,
     }
 }
@@ -144,7 +154,7 @@ fn body_problem(whole: &[u8], text: &[u8], row: &[u32], file: usize, item: usize
     }
     Problem {
         at: offset(whole, text),
-        what: What::Arguments,
+        what: What::ArgumentKinds,
     }
 }
 
@@ -220,8 +230,9 @@ fn file_problem(
     for k in 0..items {
         let number = before.saturating_add(k);
         if let Some(further) = comes_again(row, item, items - k - 1) {
+            let again = from_item(whole, number.saturating_add(further));
             return Some(Problem {
-                at: offset(whole, from_item(whole, number.saturating_add(further))),
+                at: offset(whole, from_name(again, row, item.saturating_add(2))),
                 what: What::DoubledName,
             });
         }

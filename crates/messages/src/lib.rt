@@ -68,3 +68,72 @@ pub fn explain(text: &[u8], work: &mut [u32]) -> Option<Problem>
         what: found.what,
     })
 }
+
+#[cfg(test)]
+mod tests {
+    use super::*;
+    use std::test::*;
+
+    fn problem_of(text: &[u8]) -> Option<Problem> {
+        let mut work = [0; 81920];
+        explain(text, &mut work)
+    }
+
+    fn none_of(what: Option<Problem>) -> Result<(), Fail> {
+        check(what.is_none())
+    }
+
+    // The place of a problem that is one of a name.
+    fn name_place(text: &[u8]) -> Option<usize> {
+        let found = problem_of(text)?;
+        match found.what {
+            What::UnknownName | What::WrongKind | What::DoubledName => Some(found.at),
+            _ => None,
+        }
+    }
+
+    // The place of a problem that is one of a number or of a limit on how many there are.
+    fn limit_place(text: &[u8]) -> Option<usize> {
+        let found = problem_of(text)?;
+        match found.what {
+            What::NumberTooLarge | What::SizeOutOfRange | What::Arguments => Some(found.at),
+            _ => None,
+        }
+    }
+
+    // The place of a sign that was expected.
+    fn sign_place(text: &[u8], sign: u8) -> Option<usize> {
+        let found = problem_of(text)?;
+        match found.what {
+            What::Reads(Reason::Expected(other)) if other == sign => Some(found.at),
+            _ => None,
+        }
+    }
+
+    #[test]
+    fn tells_nothing_of_a_program() -> Result<(), Fail> {
+        none_of(problem_of(b"file a; fn main() { }"))
+    }
+
+    #[test]
+    fn tells_signs() -> Result<(), Fail> {
+        check(sign_place(b"file a; fn main() { return (1; }", b')') == Some(29))?;
+        check(sign_place(b"file a; fn main() { var x return 0; }", b';') == Some(26))?;
+        check(sign_place(b"file a; fn main() {", b'}') == Some(19))
+    }
+
+    #[test]
+    fn tells_names() -> Result<(), Fail> {
+        check(name_place(b"file a; fn main() { return x; }") == Some(27))?;
+        check(name_place(b"file a; array x[2]; fn main() { return x; }") == Some(39))?;
+        check(name_place(b"file a; var x; fn x() { } fn main() { }") == Some(18))
+    }
+
+    #[test]
+    fn tells_limits() -> Result<(), Fail> {
+        check(limit_place(b"file a; fn main() { return 4294967296; }") == Some(27))?;
+        check(limit_place(b"file a; array x[65537]; fn main() { }") == Some(8))?;
+        check(limit_place(b"file a; fn main() { array x[4097]; }") == Some(8))?;
+        check(limit_place(b"file a; fn f() { } fn main() { return f(1); }") == Some(38))
+    }
+}

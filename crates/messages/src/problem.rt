@@ -11,7 +11,10 @@ pub enum What {
     DoubledFile,
     NumberTooLarge,
     OutsideLoop,
+    // how many a call has
     Arguments,
+    // an array for a word, or a word for an array
+    ArgumentKinds,
     SizeOutOfRange,
     NoValue,
     TooManyParameters,

@@ -22,7 +22,11 @@ use reason::words_for;
 const USAGE: &str = "usage: vosc FILE...
 
 The bytes of the files, one after another, are the text. The answer is the last line on standard output: `stage N` if the text
-is a program of stage N, or `no program`; then standard error says where and why, as FILE:LINE:COLUMN: reason.";
+is a program of stage N, `not yet N` if it is one of a stage N that can't be built yet, or `no program`; then standard error says
+where and why, as FILE:LINE:COLUMN: reason.";
+
+// The highest stage whose programs can be built.
+const LANDED: u32 = 0;
 
 // A file that was named: its name, and its bytes.
 #[derive(Drop)]
@@ -108,7 +112,11 @@ fn answer(rt: &LibcRuntime, sources: &[Source]) -> Result<bool, AnyError> {
     let mut work = vec![in rt.alloc(); 0; words]?;
     if let Reading::Program(tree) = read(text.as_slice(), work.as_mut_slice()) {
         let stage = tree.stage;
-        println!(rt, "stage {stage}")?;
+        if stage > LANDED {
+            println!(rt, "not yet {stage}")?;
+        } else {
+            println!(rt, "stage {stage}")?;
+        }
         return Ok(true);
     }
     if let Some(problem) = explain(text.as_slice(), work.as_mut_slice()) {

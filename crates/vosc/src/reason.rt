@@ -36,13 +36,15 @@ fn words_for_text(reason: Reason) -> &'static str {
 pub fn words_for(what: What) -> &'static str {
     match what {
         What::Reads(reason) => words_for_text(reason),
-        What::UnknownName => "this name stands for nothing here",
+        What::UnknownName => "this name stands for nothing that is wanted here",
         What::WrongKind => "this name stands for something of another kind",
         What::DoubledName => "this name is given twice",
         What::DoubledFile => "this file's name is given twice",
         What::NumberTooLarge => "a number is 4294967295 at most",
         What::OutsideLoop => "there is no loop around this",
-        What::Arguments => "the number of arguments is another",
+        What::Arguments => "there are not as many arguments as parameters",
+        What::ArgumentKinds =>
+            "in this function a word is given for an array, or an array for a word",
         What::SizeOutOfRange =>
             "an array has 1 to 65536 elements at the top of a file, and 1 to 4096 in a function",
         What::NoValue => "at least one value is needed",
