@@ -5,4 +5,4 @@ use Rattle.front.proofs.Checked.{same-resolved}
 use Rattle.front.proofs.is_checked.Goals as goal
 
 pub returns : goal.returns
-returns c = λ p e. ap₂ (λ (a b : Bool). a && b) (c.fits.ensures p e) (c.check-names.ensures p e ∙ same-resolved p) ∙ sym (splits p)
+returns c = λ p e. ap₂ (λ (a b : Bool). a && b) (c.fits.ensures p e) (c.check_names.ensures p e ∙ same-resolved p) ∙ sym (splits p)

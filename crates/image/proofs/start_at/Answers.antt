@@ -5,6 +5,6 @@ use Rattle.image.proofs.start_at.Goals as goal
 
 pub returns : goal.returns
 returns c = record {
-  says = record { pc_is = c.low-word.ensures; stack_is = omega arith; floor_is = c.low-word-2.ensures };
+  says = record { pc_is = c.low_word.ensures; stack_is = omega arith; floor_is = c.low_word-2.ensures };
   ready = placed-ready;
 }

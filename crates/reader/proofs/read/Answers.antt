@@ -9,24 +9,24 @@ use Rattle.bounds.proofs.NodesSize.{resolved-short}
 use Rattle.reader.proofs.Checked.{enough, read_as, bytes-few}
 use Rattle.reader.proofs.read.Goals as goal
 
-pub returns-then-not-is-checked : goal.returns-then-not-is-checked
-returns-then-not-is-checked c =
+pub returns-then-not-is_checked : goal.returns-then-not-is_checked
+returns-then-not-is_checked c =
     let q = c.in-Some.ensures in
-    (enough _ _ c.is-few.ensures c.if-is-few.false, read_as c.args.text.now q.program _ q.parsed q.fits (c.is-checked.ensures q.program q.row_is) ∙ ap (λ (b : Bool). pick b (some q.program) none) c.if-not-is-checked.true)
+    (enough _ _ c.is_few.ensures c.if-is_few.false, read_as c.args.text.now q.program _ q.parsed q.fits (c.is_checked.ensures q.program q.row_is) ∙ ap (λ (b : Bool). pick b (some q.program) none) c.if-not-is_checked.true)
 
 pub returns : goal.returns
 returns c =
     let q = c.in-Some.ensures in
-    let is_ok : ok q.program ≡ true = sym (c.is-checked.ensures q.program q.row_is) ∙ c.if-not-is-checked.false in
+    let is_ok : ok q.program ≡ true = sym (c.is_checked.ensures q.program q.row_is) ∙ c.if-not-is_checked.false in
     let read : reading c.args.text.now ≡ some q.program = read_as c.args.text.now q.program _ q.parsed q.fits refl ∙ ap (λ (b : Bool). pick b (some q.program) none) is_ok in
     let short = resolved-short c.args.text.now q.program (reading-sound _ _ read) in (
-      enough _ _ c.is-few.ensures c.if-is-few.false,
+      enough _ _ c.is_few.ensures c.if-is_few.false,
       record {
         program = q.program;
         read_as = read;
         row_is = q.row_is;
         stage_is = c.stage.ensures q.program q.row_is;
-        resolved_is = c.resolve-row-resolved.ensures.is q.program q.row_is is_ok (omega (arith, length-take c.in-Some.n c.parse-row.new.words, q.inside, bytes-few c.args.text.now q.fits)) (omega (arith, short));
+        resolved_is = c.resolve_row-resolved.ensures.is q.program q.row_is is_ok (omega (arith, length-take c.in-Some.n c.parse_row.new.words, q.inside, bytes-few c.args.text.now q.fits)) (omega (arith, short));
       },
       omega arith,
     )

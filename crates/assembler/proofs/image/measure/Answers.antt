@@ -9,7 +9,7 @@ pub returns-then-size-lt-REACH : goal.returns-then-size-lt-REACH
 returns-then-size-lt-REACH c = record {
   near = omega arith;
   is = λ m fs h s a b.
-      let (size, e, p) = c.measure-functions-size.ensures m fs h (omega (arith, s)) in
+      let (size, e, p) = c.measure_functions-size.ensures m fs h (omega (arith, s)) in
       let se = sym e.same in
       let sp = sym p.same in
       let te = pushed-table refl e (omega (arith, a, begins-long m fs 6)) in

@@ -9,7 +9,7 @@ loop-i-init c m fs h s = all_to (omega arith) (all_first m fs c.push.new.self c.
 pub loop-i-preserved : goal.loop-i-preserved
 loop-i-preserved c m fs h s =
     let z : c.args.count - c.loop-i.i ≡ suc (c.args.count - (c.loop-i.i + 1)) = omega arith in
-    all_more (all_to z (c.loop-i.invariant m fs h s)) s (omega arith) c.function-at-function.ensures c.push-in-loop-i.ensures c.entering-width.ensures c.saturating-add-start.ensures c.first-step.ensures (c.measure-steps-place.ensures m) c.past-function-at.ensures
+    all_more (all_to z (c.loop-i.invariant m fs h s)) s (omega arith) c.function_at-function.ensures c.push-in-loop-i.ensures c.entering_width.ensures c.saturating_add-start.ensures c.first_step.ensures (c.measure_steps-place.ensures m) c.past_function-at.ensures
 
 pub returns : goal.returns
 returns c m fs h s =

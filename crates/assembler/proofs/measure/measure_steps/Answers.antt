@@ -8,7 +8,7 @@ loop-i-init c m f ss h s = measuring_to (omega arith) (measuring_first m f ss c.
 pub loop-i-preserved : goal.loop-i-preserved
 loop-i-preserved c m f ss h s =
     let z : c.args.count - c.loop-i.i ≡ suc (c.args.count - (c.loop-i.i + 1)) = omega arith in
-    measuring_more (measuring_to z (c.loop-i.invariant m f ss h s)) s (omega arith) c.push.ensures (c.width-at.ensures m f) c.saturating-add-place.ensures c.saturating-add-next.ensures
+    measuring_more (measuring_to z (c.loop-i.invariant m f ss h s)) s (omega arith) c.push.ensures (c.width_at.ensures m f) c.saturating_add-place.ensures c.saturating_add-next.ensures
 
 pub returns : goal.returns
 returns c m f ss h s =

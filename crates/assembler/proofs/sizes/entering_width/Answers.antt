@@ -6,5 +6,5 @@ use Rattle.assembler.proofs.sizes.entering_width.Goals as goal
 pub returns : goal.returns
 returns c h l =
     let e = entering_long (routine c.args.f) in
-    let k : c.saturating-add.result ≡ c.args.f.params + c.args.f.vars + 10 = omega arith in
+    let k : c.saturating_add.result ≡ c.args.f.params + c.args.f.vars + 10 = omega arith in
     k ∙ sym e

@@ -4,8 +4,8 @@ use Rattle.board.proofs.bytes.words_of_bytes.Goals as goal
 
 pub loop-i-preserved : goal.loop-i-preserved
 loop-i-preserved c =
-    bytes_more c.args.bytes.now (vec_items c.loop-i.words) c.loop-i.i c.loop-i.invariant _ c.word-of.result
-    (λ j. omega (arith, c.type-inv.bytes j)) (omega arith) c.word-of.ensures c.in-ok-push.ensures.items
+    bytes_more c.args.bytes.now (vec_items c.loop-i.words) c.loop-i.i c.loop-i.invariant _ c.word_of.result
+    (λ j. omega (arith, c.type-inv.bytes j)) (omega arith) c.word_of.ensures c.in-ok-push.ensures.items
 
 pub returns : goal.returns
 returns c = bytes_last c.args.bytes.now (vec_items c.loop-i.words) c.loop-i.i c.loop-i.invariant (omega arith) (omega arith)

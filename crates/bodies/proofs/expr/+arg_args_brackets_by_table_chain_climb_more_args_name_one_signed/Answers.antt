@@ -9,54 +9,54 @@ use Rattle.bodies.proofs.expr.+arg_args_brackets_by_table_chain_climb_more_args_
 
 -- arguments
 pub arg-returns : goal.arg-returns
-arg-returns t c = arg_did c.in-ok-rest.ensures c.mark-arg.ensures
+arg-returns t c = arg_did c.in-ok-rest.ensures c.mark_arg.ensures
 
 pub args-returns-in-Some : goal.args-returns-in-Some
 args-returns-in-Some t c = args-zero c.args.out.now c.in-Some.ensures
 
 pub args-returns-in-err-rest : goal.args-returns-in-err-rest
-args-returns-in-err-rest t c = MatchResult-from_err c.from-residual.result _ _ c.from-residual.ensures.0 (λ y. args_of_more (pieces gap c.args.text.now) c.in-default.ensures ∙ bind-fail _ c.in-err-rest.ensures)
+args-returns-in-err-rest t c = MatchResult-from_err c.from-residual.result _ _ c.from-residual.ensures.0 (λ y. args_of_more (pieces gap c.args.text.now) c.in_default.ensures ∙ bind-fail _ c.in-err-rest.ensures)
 
 pub args-returns-in-err-count : goal.args-returns-in-err-count
-args-returns-in-err-count t c = MatchResult-from_err c.from-residual-in-err-count.result _ _ c.from-residual-in-err-count.ensures.0 (λ y. args-some-fail c.in-default.ensures c.in-ok-rest.ensures c.in-err-count.ensures.did)
+args-returns-in-err-count t c = MatchResult-from_err c.from-residual-in-err-count.result _ _ c.from-residual-in-err-count.ensures.0 (λ y. args-some-fail c.in_default.ensures c.in-ok-rest.ensures c.in-err-count.ensures.did)
 
 pub args-returns : goal.args-returns
-args-returns t c = args-some c.in-default.ensures c.in-ok-rest.ensures c.in-ok-count.ensures.did
+args-returns t c = args-some c.in_default.ensures c.in-ok-rest.ensures c.in-ok-count.ensures.did
 
-pub more-args-loop-behind-init : goal.more-args-loop-behind-init
-more-args-loop-behind-init t c = args_none c.args.text.now c.args.out.now
+pub more_args-loop-behind-init : goal.more_args-loop-behind-init
+more_args-loop-behind-init t c = args_none c.args.text.now c.args.out.now
 
-pub more-args-loop-behind-preserved : goal.more-args-loop-behind-preserved
-more-args-loop-behind-preserved t c = args_more c.loop-behind.invariant c.in-Some-eat.ensures c.in-ok-rest.ensures
+pub more_args-loop-behind-preserved : goal.more_args-loop-behind-preserved
+more_args-loop-behind-preserved t c = args_more c.loop-behind.invariant c.in-Some-eat.ensures c.in-ok-rest.ensures
 
-pub more-args-returns-in-Some : goal.more-args-returns-in-Some
-more-args-returns-in-Some t c = let f = c.loop-behind.invariant.few in record { few = omega arith; did = args-all c.loop-behind.invariant c.in-Some.ensures }
+pub more_args-returns-in-Some : goal.more_args-returns-in-Some
+more_args-returns-in-Some t c = let f = c.loop-behind.invariant.few in record { few = omega arith; did = args-all c.loop-behind.invariant c.in-Some.ensures }
 
-pub more-args-returns-in-default-eat : goal.more-args-returns-in-default-eat
-more-args-returns-in-default-eat t c = record { few = tt; did = args-refused c.loop-behind.invariant (args-fail (pieces gap c.loop-behind.rest.now) c.in-default.ensures c.in-default-eat.ensures) }
+pub more_args-returns-in_default-eat : goal.more_args-returns-in_default-eat
+more_args-returns-in_default-eat t c = record { few = tt; did = args-refused c.loop-behind.invariant (args-fail (pieces gap c.loop-behind.rest.now) c.in_default.ensures c.in_default-eat.ensures) }
 
-pub more-args-returns-in-err-rest : goal.more-args-returns-in-err-rest
-more-args-returns-in-err-rest t c = record { few = search rules; did = MatchResult-from_err c.from-residual.result _ _ c.from-residual.ensures.0 (λ y. args-refused c.loop-behind.invariant (args_comma c.in-Some-eat.ensures ∙ bind-fail _ c.in-err-rest.ensures)) }
+pub more_args-returns-in-err-rest : goal.more_args-returns-in-err-rest
+more_args-returns-in-err-rest t c = record { few = search rules; did = MatchResult-from_err c.from-residual.result _ _ c.from-residual.ensures.0 (λ y. args-refused c.loop-behind.invariant (args_comma c.in-Some-eat.ensures ∙ bind-fail _ c.in-err-rest.ensures)) }
 
 -- a call through a table
-pub by-table-returns-in-default : goal.by-table-returns-in-default
-by-table-returns-in-default t c = name-fail (pieces gap c.args.text.now) _ c.in-default.ensures
+pub by_table-returns-in_default : goal.by_table-returns-in_default
+by_table-returns-in_default t c = name-fail (pieces gap c.args.text.now) _ c.in_default.ensures
 
-pub by-table-returns-in-default-eat : goal.by-table-returns-in-default-eat
-by-table-returns-in-default-eat t c = table_open c.in-Some.x.now c.in-Some.ensures c.in-default-eat.ensures
+pub by_table-returns-in_default-eat : goal.by_table-returns-in_default-eat
+by_table-returns-in_default-eat t c = table_open c.in-Some.x.now c.in-Some.ensures c.in_default-eat.ensures
 
-pub by-table-returns : goal.by-table-returns
-by-table-returns t c = table-did c.in-Some.x.now c.in-Some.ensures c.in-Some-eat.ensures c.in-ok-rest.ensures c.in-Some-eat-2.ensures c.in-Some-eat-3.ensures c.in-ok-count.ensures c.put-call.ensures
+pub by_table-returns : goal.by_table-returns
+by_table-returns t c = table-did c.in-Some.x.now c.in-Some.ensures c.in-Some-eat.ensures c.in-ok-rest.ensures c.in-Some-eat-2.ensures c.in-Some-eat-3.ensures c.in-ok-count.ensures c.put_call.ensures
 
 -- chains
 pub chain-loop-tight-init : goal.chain-loop-tight-init
 chain-loop-tight-init t c = far_none c.args.level c.args.text.now c.args.out.now
 
 pub chain-loop-tight-preserved : goal.chain-loop-tight-preserved
-chain-loop-tight-preserved t c = far-more c.in-Some.op c.loop-tight.invariant c.in-Some.ensures (omega arith) c.put-mid.ensures c.in-ok-rest.ensures c.put-post.ensures
+chain-loop-tight-preserved t c = far-more c.in-Some.op c.loop-tight.invariant c.in-Some.ensures (omega arith) c.put_mid.ensures c.in-ok-rest.ensures c.put_post.ensures
 
-pub chain-returns-in-default : goal.chain-returns-in-default
-chain-returns-in-default t c = far-end c.loop-tight.invariant (c.in-default.ensures c.args.level)
+pub chain-returns-in_default : goal.chain-returns-in_default
+chain-returns-in_default t c = far-end c.loop-tight.invariant (c.in_default.ensures c.args.level)
 
 pub climb-returns : goal.climb-returns
 climb-returns t c = climb-by c.chain.new.out c.args.level c.chain.result c.in-ok-rest.ensures c.chain.ensures
@@ -66,19 +66,19 @@ pub name-returns-in-err-count : goal.name-returns-in-err-count
 name-returns-in-err-count t c = MatchResult-from_err c.from-residual.result _ _ c.from-residual.ensures.0 (λ y. name-call c.args.x.now c.in-Some.ensures ∙ bind-fail _ c.in-err-count.ensures)
 
 pub name-returns-in-Some : goal.name-returns-in-Some
-name-returns-in-Some t c = call-did c.args.x.now c.requires.some c.in-Some.ensures c.in-ok-count.ensures c.put-call.ensures
+name-returns-in-Some t c = call-did c.args.x.now c.requires.some c.in-Some.ensures c.in-ok-count.ensures c.put_call.ensures
 
 pub name-returns-in-err-rest : goal.name-returns-in-err-rest
 name-returns-in-err-rest t c = MatchResult-from_err c.from-residual-in-err-rest.result _ _ c.from-residual-in-err-rest.ensures.0 (λ y. name-index c.args.x.now c.in-Some-eat.ensures ∙ bind-fail _ c.in-err-rest.ensures)
 
-pub name-returns-in-default-eat-2 : goal.name-returns-in-default-eat-2
-name-returns-in-default-eat-2 t c = index_open c.args.x.now c.in-Some-eat.ensures c.in-ok-rest.ensures c.in-default-eat-2.ensures
+pub name-returns-in_default-eat-2 : goal.name-returns-in_default-eat-2
+name-returns-in_default-eat-2 t c = index_open c.args.x.now c.in-Some-eat.ensures c.in-ok-rest.ensures c.in_default-eat-2.ensures
 
 pub name-returns-in-Some-eat : goal.name-returns-in-Some-eat
-name-returns-in-Some-eat t c = index-did c.args.x.now c.requires.some c.in-Some-eat.ensures c.in-ok-rest.ensures c.in-Some-eat-2.ensures c.put-named.ensures
+name-returns-in-Some-eat t c = index-did c.args.x.now c.requires.some c.in-Some-eat.ensures c.in-ok-rest.ensures c.in-Some-eat-2.ensures c.put_named.ensures
 
 pub name-returns : goal.name-returns
-name-returns t c = var-did c.args.x.now c.requires.some c.in-default.ensures c.in-default-eat.ensures c.put-named-2.ensures
+name-returns t c = var-did c.args.x.now c.requires.some c.in_default.ensures c.in_default-eat.ensures c.put_named-2.ensures
 
 -- one
 pub one-returns-in-Num : goal.one-returns-in-Num
@@ -97,7 +97,7 @@ pub one-returns-in-OpenRound : goal.one-returns-in-OpenRound
 one-returns-in-OpenRound t c = let f = seen_at _ _ OpenRound c.in-OpenRound.is c.see.ensures in started c.args.out.now c.brackets.new.out 0 OpenRound f c.brackets.result (omega arith) c.brackets.ensures
 
 pub one-returns-in-Len : goal.one-returns-in-Len
-one-returns-in-Len t c = let f = seen_at _ _ Len c.in-Len.is c.see.ensures in started c.args.out.now c.length-of.new.out 0 Len f c.length-of.result (omega arith) c.length-of.ensures
+one-returns-in-Len t c = let f = seen_at _ _ Len c.in-Len.is c.see.ensures in started c.args.out.now c.length_of.new.out 0 Len f c.length_of.result (omega arith) c.length_of.ensures
 
 pub one-returns-in-Call : goal.one-returns-in-Call
 one-returns-in-Call t c = let f = seen_at _ _ Call c.in-Call.is c.see.ensures in started c.args.out.now c.by_table.new.out 0 Call f c.by_table.result (omega arith) c.by_table.ensures
@@ -105,8 +105,8 @@ one-returns-in-Call t c = let f = seen_at _ _ Call c.in-Call.is c.see.ensures in
 pub one-returns-in-In : goal.one-returns-in-In
 one-returns-in-In t c = let f = seen_at _ _ In c.in-In.is c.see.ensures in started c.args.out.now c.input.new.out 0 In f c.input.result (omega arith) c.input.ensures
 
-pub one-returns-in-default : goal.one-returns-in-default
-one-returns-in-default t c = one_none c.see.result.0 (seen-any c.see.result.0 c.see.ensures) c.in-default.not-Num c.in-default.not-Named c.in-default.not-Minus c.in-default.not-Before c.in-default.not-OpenRound c.in-default.not-Len c.in-default.not-Call c.in-default.not-In
+pub one-returns-in_default : goal.one-returns-in_default
+one-returns-in_default t c = one_none c.see.result.0 (seen-any c.see.result.0 c.see.ensures) c.in_default.not-Num c.in_default.not-Named c.in_default.not-Minus c.in_default.not-Before c.in_default.not-OpenRound c.in_default.not-Len c.in_default.not-Call c.in_default.not-In
 
 pub signed-returns : goal.signed-returns
 signed-returns t c = signed-did c.args.o c.in-ok-rest.ensures c.put2.ensures

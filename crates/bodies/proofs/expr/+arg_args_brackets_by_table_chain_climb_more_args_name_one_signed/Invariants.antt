@@ -12,8 +12,8 @@ decreases-args l = 4 * length l.text.now + 3
 abbrev pub decreases-brackets : goal.decreases-brackets
 decreases-brackets l = 4 * length l.text.now + 2
 
-abbrev pub decreases-by-table : goal.decreases-by-table
-decreases-by-table l = 4 * length l.text.now + 3
+abbrev pub decreases-by_table : goal.decreases-by_table
+decreases-by_table l = 4 * length l.text.now + 3
 
 abbrev pub decreases-chain : goal.decreases-chain
 decreases-chain l = 4 * length l.text.now
@@ -21,8 +21,8 @@ decreases-chain l = 4 * length l.text.now
 abbrev pub decreases-climb : goal.decreases-climb
 decreases-climb l = 4 * length l.text.now + 1
 
-abbrev pub decreases-more-args : goal.decreases-more-args
-decreases-more-args l = 4 * length l.text.now
+abbrev pub decreases-more_args : goal.decreases-more_args
+decreases-more_args l = 4 * length l.text.now
 
 abbrev pub decreases-name : goal.decreases-name
 decreases-name l = 4 * length l.text.now
@@ -39,8 +39,8 @@ invariant-chain-loop-tight l = Far l.level l.initial.rest l.rest l.initial.out l
 abbrev pub decreases-chain-loop-tight : goal.decreases-chain-loop-tight
 decreases-chain-loop-tight l = length l.rest
 
-abbrev pub decreases-more-args-loop-behind : goal.decreases-more-args-loop-behind
-decreases-more-args-loop-behind l = length l.rest
+abbrev pub decreases-more_args-loop-behind : goal.decreases-more_args-loop-behind
+decreases-more_args-loop-behind l = length l.rest
 
-abbrev pub invariant-more-args-loop-behind : goal.invariant-more-args-loop-behind
-invariant-more-args-loop-behind l = FarArgs l.initial.rest l.rest l.count l.initial.out l.out
+abbrev pub invariant-more_args-loop-behind : goal.invariant-more_args-loop-behind
+invariant-more_args-loop-behind l = FarArgs l.initial.rest l.rest l.count l.initial.out l.out

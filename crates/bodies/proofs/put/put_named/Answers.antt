@@ -3,4 +3,4 @@ use Rattle.rows.proofs.Writing.{wrote-more}
 use Rattle.bodies.proofs.put.put_named.Goals as goal
 
 pub returns : goal.returns
-returns c = wrote-more c.put.ensures c.put-name.ensures
+returns c = wrote-more c.put.ensures c.put_name.ensures

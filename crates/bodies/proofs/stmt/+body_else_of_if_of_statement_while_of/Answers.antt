@@ -12,37 +12,37 @@ pub body-loop-behind-init : goal.body-loop-behind-init
 body-loop-behind-init t c = body-none c.args.text.now c.args.out.now
 
 pub body-loop-behind-preserved : goal.body-loop-behind-preserved
-body-loop-behind-preserved t c = body-on c.loop-behind.invariant c.in-default.ensures c.in-ok-rest.ensures
+body-loop-behind-preserved t c = body-on c.loop-behind.invariant c.in_default.ensures c.in-ok-rest.ensures
 
 pub body-returns-in-Some : goal.body-returns-in-Some
 body-returns-in-Some t c = body-did c.loop-behind.invariant c.in-Some.ensures
 
-pub body-returns-then-at-end : goal.body-returns-then-at-end
-body-returns-then-at-end t c = body-fail c.loop-behind.invariant c.in-default.ensures (stmt-nil (pieces gap c.loop-behind.rest.now) c.if-at-end.ensures)
+pub body-returns-then-at_end : goal.body-returns-then-at_end
+body-returns-then-at_end t c = body-fail c.loop-behind.invariant c.in_default.ensures (stmt-nil (pieces gap c.loop-behind.rest.now) c.if-at_end.ensures)
 
 pub body-returns-in-err-rest : goal.body-returns-in-err-rest
-body-returns-in-err-rest t c = MatchResult-from_err c.from-residual.result _ _ c.from-residual.ensures.0 (λ y. body-fail c.loop-behind.invariant c.in-default.ensures c.in-err-rest.ensures)
+body-returns-in-err-rest t c = MatchResult-from_err c.from-residual.result _ _ c.from-residual.ensures.0 (λ y. body-fail c.loop-behind.invariant c.in_default.ensures c.in-err-rest.ensures)
 
-pub else-of-returns-in-default : goal.else-of-returns-in-default
-else-of-returns-in-default t c = else_did c.args.text.now c.args.out.now c.in-default.ensures
+pub else_of-returns-in_default : goal.else_of-returns-in_default
+else_of-returns-in_default t c = else_did c.args.text.now c.args.out.now c.in_default.ensures
 
-pub if-of-returns : goal.if-of-returns
-if-of-returns t c = if_did c.in-ok-rest.ensures c.in-Some.ensures c.put.ensures c.in-ok-rest-2.ensures c.put-2.ensures c.in-ok-rest-3.ensures c.put-3.ensures
+pub if_of-returns : goal.if_of-returns
+if_of-returns t c = if_did c.in-ok-rest.ensures c.in-Some.ensures c.put.ensures c.in-ok-rest-2.ensures c.put-2.ensures c.in-ok-rest-3.ensures c.put-3.ensures
 
-pub while-of-returns : goal.while-of-returns
-while-of-returns t c = while_did c.put.ensures c.in-ok-rest.ensures c.in-Some.ensures c.put-2.ensures c.in-ok-rest-2.ensures c.put-3.ensures
+pub while_of-returns : goal.while_of-returns
+while_of-returns t c = while_did c.put.ensures c.in-ok-rest.ensures c.in-Some.ensures c.put-2.ensures c.in-ok-rest-2.ensures c.put-3.ensures
 
 pub statement-returns-in-Out : goal.statement-returns-in-Out
-statement-returns-in-Out t c = st_semi c.args.out.now c.with-semi.new.out c.with-semi.result Out (led_at _ _ Out c.in-Out.is c.see-lead.ensures) out1 15 refl st_out c.with-semi.ensures
+statement-returns-in-Out t c = st_semi c.args.out.now c.with_semi.new.out c.with_semi.result Out (led_at _ _ Out c.in-Out.is c.see_lead.ensures) out1 15 refl st_out c.with_semi.ensures
 
 pub statement-returns-in-Return : goal.statement-returns-in-Return
-statement-returns-in-Return t c = st_semi c.args.out.now c.with-semi-in-Return.new.out c.with-semi-in-Return.result Return (led_at _ _ Return c.in-Return.is c.see-lead.ensures) ret1 22 refl st_ret c.with-semi-in-Return.ensures
+statement-returns-in-Return t c = st_semi c.args.out.now c.with_semi-in-Return.new.out c.with_semi-in-Return.result Return (led_at _ _ Return c.in-Return.is c.see_lead.ensures) ret1 22 refl st_ret c.with_semi-in-Return.ensures
 
 pub statement-returns-in-Break : goal.statement-returns-in-Break
-statement-returns-in-Break t c = st_just c.args.out.now c.just-semi.new.out c.just-semi.result Break (led_at _ _ Break c.in-Break.is c.see-lead.ensures) break1 23 refl st_break c.just-semi.ensures
+statement-returns-in-Break t c = st_just c.args.out.now c.just_semi.new.out c.just_semi.result Break (led_at _ _ Break c.in-Break.is c.see_lead.ensures) break1 23 refl st_break c.just_semi.ensures
 
 pub statement-returns-in-Next : goal.statement-returns-in-Next
-statement-returns-in-Next t c = st_just c.args.out.now c.just-semi-in-Next.new.out c.just-semi-in-Next.result Next (led_at _ _ Next c.in-Next.is c.see-lead.ensures) next1 24 refl st_next c.just-semi-in-Next.ensures
+statement-returns-in-Next t c = st_just c.args.out.now c.just_semi-in-Next.new.out c.just_semi-in-Next.result Next (led_at _ _ Next c.in-Next.is c.see_lead.ensures) next1 24 refl st_next c.just_semi-in-Next.ensures
 
 pub statement-returns-in-Other : goal.statement-returns-in-Other
-statement-returns-in-Other t c = st_ex c.args.text.now c.args.out.now c.with-semi-in-Other.new.out c.with-semi-in-Other.result (led_at c.args.text.now c.see-lead.result.1.now Other c.in-Other.is c.see-lead.ensures) c.with-semi-in-Other.ensures
+statement-returns-in-Other t c = st_ex c.args.text.now c.args.out.now c.with_semi-in-Other.new.out c.with_semi-in-Other.result (led_at c.args.text.now c.see_lead.result.1.now Other c.in-Other.is c.see_lead.ensures) c.with_semi-in-Other.ensures

@@ -6,14 +6,14 @@ use Rattle.bodies.proofs.stmt.+body_else_of_if_of_statement_while_of.Given as go
 abbrev pub decreases-body : goal.decreases-body
 decreases-body l = 4 * length l.text.now + 1
 
-abbrev pub decreases-else-of : goal.decreases-else-of
-decreases-else-of l = 4 * length l.text.now
+abbrev pub decreases-else_of : goal.decreases-else_of
+decreases-else_of l = 4 * length l.text.now
 
-abbrev pub decreases-if-of : goal.decreases-if-of
-decreases-if-of l = 4 * length l.text.now + 2
+abbrev pub decreases-if_of : goal.decreases-if_of
+decreases-if_of l = 4 * length l.text.now + 2
 
-abbrev pub decreases-while-of : goal.decreases-while-of
-decreases-while-of l = 4 * length l.text.now + 2
+abbrev pub decreases-while_of : goal.decreases-while_of
+decreases-while_of l = 4 * length l.text.now + 2
 
 abbrev pub decreases-statement : goal.decreases-statement
 decreases-statement l = 4 * length l.text.now

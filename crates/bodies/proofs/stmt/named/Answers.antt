@@ -7,7 +7,7 @@ pub returns-in-err-rest : goal.returns-in-err-rest
 returns-in-err-rest c = MatchResult-from_err c.from-residual.result _ _ c.from-residual.ensures.0 (λ y. set-fail c.args.x.now c.in-Some.ensures c.in-err-rest.ensures)
 
 pub returns-in-Some : goal.returns-in-Some
-returns-in-Some c = set-did c.args.x.now c.requires.begins c.in-Some.ensures c.in-ok-rest.ensures c.put-named.ensures
+returns-in-Some c = set-did c.args.x.now c.requires.begins c.in-Some.ensures c.in-ok-rest.ensures c.put_named.ensures
 
 pub returns : goal.returns
-returns c = named_other c.args.x.now c.args.out.now c.with-semi.new.out c.with-semi.result c.requires.begins c.in-default.ensures c.in-default-eat.ensures c.with-semi.ensures
+returns c = named_other c.args.x.now c.args.out.now c.with_semi.new.out c.with_semi.result c.requires.begins c.in_default.ensures c.in_default-eat.ensures c.with_semi.ensures

@@ -10,14 +10,14 @@ loop-left-init c = λ p e. first-files p e c.at-left.ensures.is refl
 
 pub loop-left-preserved : goal.loop-left-preserved
 loop-left-preserved c = λ p e.
-    rest-next (omega arith) c.past-file-next.ensures
-    (λ m ms k hr l q. q ∙ ap (λ (t : Bool). not t && once (file_names ms)) (sym (c.if-is-file.ensures ms m.name hr l (file-name m k))))
+    rest-next (omega arith) c.past_file-next.ensures
+    (λ m ms k hr l q. q ∙ ap (λ (t : Bool). not t && once (file_names ms)) (sym (c.if-is_file.ensures ms m.name hr l (file-name m k))))
     (c.loop-left.invariant p e)
 
-pub returns-then-is-file : goal.returns-then-is-file
-returns-then-is-file c = λ p e.
-    rest-by (omega arith) c.past-file-next.ensures
-    (λ m ms k hr l q. sym (q ∙ ap (λ (t : Bool). not t && once (file_names ms)) (sym (c.if-is-file.ensures ms m.name hr l (file-name m k)))))
+pub returns-then-is_file : goal.returns-then-is_file
+returns-then-is_file c = λ p e.
+    rest-by (omega arith) c.past_file-next.ensures
+    (λ m ms k hr l q. sym (q ∙ ap (λ (t : Bool). not t && once (file_names ms)) (sym (c.if-is_file.ensures ms m.name hr l (file-name m k)))))
     (c.loop-left.invariant p e)
 
 pub returns : goal.returns

@@ -10,11 +10,11 @@ use Rattle.limits.proofs.differ.is_in_item.Goals as goal
 
 pub returns-then-kind-eq-USE : goal.returns-then-kind-eq-USE
 returns-then-kind-eq-USE c = λ i x h hx.
-    only_use (λ i. c.is-listed.result ≡ listed x (item_names i)) c.at-kind.ensures.is c.if-kind-eq-USE.true
-    (λ y xs k. let t = item_tail (omega arith) c.saturating-add-own.ensures c.past-name-tail.ensures (i_use y xs) k in
-    c.is-listed.ensures xs x (has_to (omega (arith, t.inside)) (has-next t)) (sym (c.at.ensures.is ∙ has_word t)) hx)
+    only_use (λ i. c.is_listed.result ≡ listed x (item_names i)) c.at-kind.ensures.is c.if-kind-eq-USE.true
+    (λ y xs k. let t = item_tail (omega arith) c.saturating_add-own.ensures c.past_name-tail.ensures (i_use y xs) k in
+    c.is_listed.ensures xs x (has_to (omega (arith, t.inside)) (has-next t)) (sym (c.at.ensures.is ∙ has_word t)) hx)
     i h
 
 pub returns-else-kind-eq-USE : goal.returns-else-kind-eq-USE
 returns-else-kind-eq-USE c = λ i x h hx.
-    c.same-at.ensures (name_of i) x (item_name (omega arith) c.saturating-add-own.ensures i h) hx ∙ listed-own c.at-kind.ensures.is c.if-kind-eq-USE.false i h x
+    c.same_at.ensures (name_of i) x (item_name (omega arith) c.saturating_add-own.ensures i h) hx ∙ listed-own c.at-kind.ensures.is c.if-kind-eq-USE.false i h x

@@ -12,13 +12,13 @@ loop-left-init c = λ is x h e hx. rest-first is h e refl
 
 pub loop-left-preserved : goal.loop-left-preserved
 loop-left-preserved c = λ is x h e hx.
-    rest-next (omega arith) (passes c.past-item-here.ensures)
-    (λ m ms k hr l p. p ∙ listed_more x m ms ∙ ap (λ (t : Bool). t || listed x (names_in ms)) (sym (c.if-is-in-item.ensures m x k hx)))
+    rest-next (omega arith) (passes c.past_item-here.ensures)
+    (λ m ms k hr l p. p ∙ listed_more x m ms ∙ ap (λ (t : Bool). t || listed x (names_in ms)) (sym (c.if-is_in_item.ensures m x k hx)))
     (c.loop-left.invariant is x h e hx)
 
-pub returns-then-is-in-item : goal.returns-then-is-in-item
-returns-then-is-in-item c = λ is x h e hx.
-    rest-found (omega arith) (λ m ms k p. sym (p ∙ listed_more x m ms ∙ ap (λ (t : Bool). t || listed x (names_in ms)) (sym (c.if-is-in-item.ensures m x k hx)))) (c.loop-left.invariant is x h e hx)
+pub returns-then-is_in_item : goal.returns-then-is_in_item
+returns-then-is_in_item c = λ is x h e hx.
+    rest-found (omega arith) (λ m ms k p. sym (p ∙ listed_more x m ms ∙ ap (λ (t : Bool). t || listed x (names_in ms)) (sym (c.if-is_in_item.ensures m x k hx)))) (c.loop-left.invariant is x h e hx)
 
 pub returns : goal.returns
 returns c = λ is x h e hx. sym (rest-last (omega arith) (c.loop-left.invariant is x h e hx))

@@ -10,13 +10,13 @@ loop-left-init c = λ xs x h e hx. rest-first xs h e refl
 
 pub loop-left-preserved : goal.loop-left-preserved
 loop-left-preserved c = λ xs x h e hx.
-    rest-next (omega arith) (passes_name c.past-name-here.ensures)
-    (λ m ms k hr l p. p ∙ ap (λ (t : Bool). t || listed x ms) (sym (c.if-same-at.ensures m x k hx)))
+    rest-next (omega arith) (passes_name c.past_name-here.ensures)
+    (λ m ms k hr l p. p ∙ ap (λ (t : Bool). t || listed x ms) (sym (c.if-same_at.ensures m x k hx)))
     (c.loop-left.invariant xs x h e hx)
 
-pub returns-then-same-at : goal.returns-then-same-at
-returns-then-same-at c = λ xs x h e hx.
-    rest-found (omega arith) (λ m ms k p. sym (p ∙ ap (λ (t : Bool). t || listed x ms) (sym (c.if-same-at.ensures m x k hx)))) (c.loop-left.invariant xs x h e hx)
+pub returns-then-same_at : goal.returns-then-same_at
+returns-then-same_at c = λ xs x h e hx.
+    rest-found (omega arith) (λ m ms k p. sym (p ∙ ap (λ (t : Bool). t || listed x ms) (sym (c.if-same_at.ensures m x k hx)))) (c.loop-left.invariant xs x h e hx)
 
 pub returns : goal.returns
 returns c = λ xs x h e hx. sym (rest-last (omega arith) (c.loop-left.invariant xs x h e hx))

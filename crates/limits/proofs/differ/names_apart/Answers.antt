@@ -11,14 +11,14 @@ loop-left-init c = λ xs is h e k l. rest-first xs h e refl
 
 pub loop-left-preserved : goal.loop-left-preserved
 loop-left-preserved c = λ xs is h e k l.
-    rest-next (omega arith) (passes_name c.past-name-after.ensures)
-    (λ m ms hm hr lm p. p ∙ ap (λ (t : Bool). not t && apart ms (names_in is)) (sym (c.if-comes-again.ensures ms is m hr lm k l hm)))
+    rest-next (omega arith) (passes_name c.past_name-after.ensures)
+    (λ m ms hm hr lm p. p ∙ ap (λ (t : Bool). not t && apart ms (names_in is)) (sym (c.if-comes_again.ensures ms is m hr lm k l hm)))
     (c.loop-left.invariant xs is h e k l)
 
-pub returns-then-comes-again : goal.returns-then-comes-again
-returns-then-comes-again c = λ xs is h e k l.
-    rest-by (omega arith) (passes_name c.past-name-after.ensures)
-    (λ m ms hm hr lm p. sym (p ∙ ap (λ (t : Bool). not t && apart ms (names_in is)) (sym (c.if-comes-again.ensures ms is m hr lm k l hm))))
+pub returns-then-comes_again : goal.returns-then-comes_again
+returns-then-comes_again c = λ xs is h e k l.
+    rest-by (omega arith) (passes_name c.past_name-after.ensures)
+    (λ m ms hm hr lm p. sym (p ∙ ap (λ (t : Bool). not t && apart ms (names_in is)) (sym (c.if-comes_again.ensures ms is m hr lm k l hm))))
     (c.loop-left.invariant xs is h e k l)
 
 pub returns : goal.returns

@@ -11,14 +11,14 @@ loop-left-init c = λ ls x h e hx. rest-first ls h e refl
 
 pub loop-left-preserved : goal.loop-left-preserved
 loop-left-preserved c = λ ls x h e hx.
-    rest-next (omega arith) c.past-local-here.ensures
-    (λ m ms k hr l p. p ∙ ap (λ (t : Bool). t || listed x (local_names ms)) (sym (c.if-same-at.ensures m.name x (local_name (omega arith) c.saturating-add.ensures m k) hx)))
+    rest-next (omega arith) c.past_local-here.ensures
+    (λ m ms k hr l p. p ∙ ap (λ (t : Bool). t || listed x (local_names ms)) (sym (c.if-same_at.ensures m.name x (local_name (omega arith) c.saturating_add.ensures m k) hx)))
     (c.loop-left.invariant ls x h e hx)
 
-pub returns-then-same-at : goal.returns-then-same-at
-returns-then-same-at c = λ ls x h e hx.
+pub returns-then-same_at : goal.returns-then-same_at
+returns-then-same_at c = λ ls x h e hx.
     rest-found (omega arith)
-    (λ m ms k p. sym (p ∙ ap (λ (t : Bool). t || listed x (local_names ms)) (sym (c.if-same-at.ensures m.name x (local_name (omega arith) c.saturating-add.ensures m k) hx))))
+    (λ m ms k p. sym (p ∙ ap (λ (t : Bool). t || listed x (local_names ms)) (sym (c.if-same_at.ensures m.name x (local_name (omega arith) c.saturating_add.ensures m k) hx))))
     (c.loop-left.invariant ls x h e hx)
 
 pub returns : goal.returns

@@ -11,14 +11,14 @@ loop-left-init c = λ ls h e. rest-first ls h e refl
 
 pub loop-left-preserved : goal.loop-left-preserved
 loop-left-preserved c = λ ls h e.
-    rest-next (omega arith) c.past-local-next.ensures
-    (λ m ms k hr l p. p ∙ ap (λ (t : Bool). not t && once (local_names ms)) (sym (c.if-is-local.ensures ms m.name hr l (local_name (omega arith) c.saturating-add.ensures m k))))
+    rest-next (omega arith) c.past_local-next.ensures
+    (λ m ms k hr l p. p ∙ ap (λ (t : Bool). not t && once (local_names ms)) (sym (c.if-is_local.ensures ms m.name hr l (local_name (omega arith) c.saturating_add.ensures m k))))
     (c.loop-left.invariant ls h e)
 
-pub returns-then-is-local : goal.returns-then-is-local
-returns-then-is-local c = λ ls h e.
-    rest-by (omega arith) c.past-local-next.ensures
-    (λ m ms k hr l p. sym (p ∙ ap (λ (t : Bool). not t && once (local_names ms)) (sym (c.if-is-local.ensures ms m.name hr l (local_name (omega arith) c.saturating-add.ensures m k)))))
+pub returns-then-is_local : goal.returns-then-is_local
+returns-then-is_local c = λ ls h e.
+    rest-by (omega arith) c.past_local-next.ensures
+    (λ m ms k hr l p. sym (p ∙ ap (λ (t : Bool). not t && once (local_names ms)) (sym (c.if-is_local.ensures ms m.name hr l (local_name (omega arith) c.saturating_add.ensures m k)))))
     (c.loop-left.invariant ls h e)
 
 pub returns : goal.returns

@@ -6,5 +6,5 @@ use Rattle.limits.proofs.pass.number_at.Goals as goal
 pub returns : goal.returns
 returns c = λ n h.
     let low : c.at-low.result ≡ n % 4294967296 = c.at-low.ensures.is ∙ has_word h in
-    let high : c.at-high.result ≡ n / 4294967296 = read_at {k = 1} h (omega arith) (omega arith) c.saturating-add.ensures c.at-high.ensures.is in
+    let high : c.at-high.result ≡ n / 4294967296 = read_at {k = 1} h (omega arith) (omega arith) c.saturating_add.ensures c.at-high.ensures.is in
     omega arith

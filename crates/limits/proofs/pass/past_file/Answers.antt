@@ -6,11 +6,11 @@ use Rattle.limits.proofs.Places.{passes, first_items, file_ends}
 use Rattle.limits.proofs.pass.past_file.Goals as goal
 
 pub loop-left-init : goal.loop-left-init
-loop-left-init c = λ f h. first_items (omega arith) c.past-name-head.ensures f h c.at-left.ensures.is c.saturating-add-here.ensures (file_ends (omega arith) c.past-name-head.ensures f h c.saturating-add-here.ensures)
+loop-left-init c = λ f h. first_items (omega arith) c.past_name-head.ensures f h c.at-left.ensures.is c.saturating_add-here.ensures (file_ends (omega arith) c.past_name-head.ensures f h c.saturating_add-here.ensures)
 
 pub loop-left-preserved : goal.loop-left-preserved
 loop-left-preserved c = λ f h.
-    rest-next (omega arith) (passes c.past-item-here.ensures) (λ x xs hx hr k p. omega (arith, length-append (item_row x) (list_row item_row xs), c.past-item-here.ensures x hx))
+    rest-next (omega arith) (passes c.past_item-here.ensures) (λ x xs hx hr k p. omega (arith, length-append (item_row x) (list_row item_row xs), c.past_item-here.ensures x hx))
     (c.loop-left.invariant f h)
 
 pub returns : goal.returns

@@ -4,4 +4,4 @@ use Rattle.limits.proofs.Places.{local_name}
 use Rattle.limits.proofs.pass.past_local.Goals as goal
 
 pub returns : goal.returns
-returns c = λ l h. omega (arith, c.past-name.ensures l.name (local_name (omega arith) c.saturating-add.ensures l h), h.inside)
+returns c = λ l h. omega (arith, c.past_name.ensures l.name (local_name (omega arith) c.saturating_add.ensures l h), h.inside)

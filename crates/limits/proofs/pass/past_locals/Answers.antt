@@ -9,7 +9,7 @@ loop-left-init c = λ ls h e. rest-first ls h e refl
 
 pub loop-left-preserved : goal.loop-left-preserved
 loop-left-preserved c = λ ls h e.
-    rest-next (omega arith) c.past-local-here.ensures (λ x xs hx hr k p. omega (arith, length-append (local_row x) (list_row local_row xs), c.past-local-here.ensures x hx))
+    rest-next (omega arith) c.past_local-here.ensures (λ x xs hx hr k p. omega (arith, length-append (local_row x) (list_row local_row xs), c.past_local-here.ensures x hx))
     (c.loop-left.invariant ls h e)
 
 pub returns : goal.returns

@@ -8,8 +8,8 @@ use Rattle.limits.proofs.stages.stage_of_fn.Goals as goal
 
 pub returns : goal.returns
 returns c = λ g h e.
-    let d = c.head-of-head.ensures.is g h in
-    let b = c.past-locals-body.ensures (locals g) (names_at g d) (names_are g d) in
-    let l = c.stage-of-locals.ensures (locals g) (names_at g d) (names_are g d) in
-    let t = c.stage-of-nodes.ensures (nodes_b g.body) (body_at g d b) (body_ends g d b e) in
+    let d = c.head_of-head.ensures.is g h in
+    let b = c.past_locals-body.ensures (locals g) (names_at g d) (names_are g d) in
+    let l = c.stage_of_locals.ensures (locals g) (names_at g d) (names_are g d) in
+    let t = c.stage_of_nodes.ensures (nodes_b g.body) (body_at g d b) (body_ends g d b e) in
     omega (arith, stage-locals g, stage_body g.body, c.max.ensures)

@@ -11,7 +11,7 @@ loop-left-init c = λ ls h e. rest-first ls h e (omega arith)
 
 pub loop-left-preserved : goal.loop-left-preserved
 loop-left-preserved c = λ ls h e.
-    rest-next (omega arith) c.past-local-here.ensures (λ x xs hx hr k p. omega (arith, ap kind_stage (c.at.ensures.is ∙ has_word hx) ∙ stage-kind x.kind))
+    rest-next (omega arith) c.past_local-here.ensures (λ x xs hx hr k p. omega (arith, ap kind_stage (c.at.ensures.is ∙ has_word hx) ∙ stage-kind x.kind))
     (c.loop-left.invariant ls h e)
 
 pub returns : goal.returns

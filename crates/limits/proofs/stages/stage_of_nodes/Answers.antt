@@ -8,7 +8,7 @@ loop-here-init c = λ ts h e. until_first ts h e (omega arith)
 
 pub loop-here-preserved : goal.loop-here-preserved
 loop-here-preserved c = λ ts h e.
-    until_next (omega arith) c.past-node.ensures c.max-here.ensures (λ t us ht p. omega (arith, stage-here t ht c.at.ensures.is))
+    until_next (omega arith) c.past_node.ensures c.max-here.ensures (λ t us ht p. omega (arith, stage-here t ht c.at.ensures.is))
     (c.loop-here.invariant ts h e)
 
 pub returns : goal.returns

@@ -11,7 +11,7 @@ loop-left-init c = λ p e. first-files p e c.at-left.ensures.is (omega arith)
 
 pub loop-left-preserved : goal.loop-left-preserved
 loop-left-preserved c = λ p e.
-    rest-next (omega arith) c.past-file-here.ensures (λ f fs h hr k q. omega (arith, c.elements-of-file.ensures f h))
+    rest-next (omega arith) c.past_file-here.ensures (λ f fs h hr k q. omega (arith, c.elements_of_file.ensures f h))
     (c.loop-left.invariant p e)
 
 pub returns : goal.returns

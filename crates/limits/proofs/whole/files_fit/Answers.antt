@@ -10,14 +10,14 @@ loop-left-init c = λ p e. first-files p e c.at-left.ensures.is refl
 
 pub loop-left-preserved : goal.loop-left-preserved
 loop-left-preserved c = λ p e.
-    rest-next (omega arith) c.past-file-here.ensures
-    (λ f fs h hr l q. q ∙ ap (λ (t : Bool). t && files_within fs) (sym (ap₂ (λ (s t : Bool). s && t) (c.items-fit.ensures f h) (c.names-once.ensures f h)) ∙ c.if-not-fits.false))
+    rest-next (omega arith) c.past_file-here.ensures
+    (λ f fs h hr l q. q ∙ ap (λ (t : Bool). t && files_within fs) (sym (ap₂ (λ (s t : Bool). s && t) (c.items_fit.ensures f h) (c.names_once.ensures f h)) ∙ c.if-not-fits.false))
     (c.loop-left.invariant p e)
 
 pub returns-then-not-fits : goal.returns-then-not-fits
 returns-then-not-fits c = λ p e.
     rest-found (omega arith)
-    (λ f fs h q. sym (q ∙ ap (λ (t : Bool). t && files_within fs) (sym (ap₂ (λ (s t : Bool). s && t) (c.items-fit.ensures f h) (c.names-once.ensures f h)) ∙ c.if-not-fits.true)))
+    (λ f fs h q. sym (q ∙ ap (λ (t : Bool). t && files_within fs) (sym (ap₂ (λ (s t : Bool). s && t) (c.items_fit.ensures f h) (c.names_once.ensures f h)) ∙ c.if-not-fits.true)))
     (c.loop-left.invariant p e)
 
 pub returns : goal.returns

@@ -7,22 +7,22 @@ use Rattle.names.proofs.asking.effect_of.Goals as goal
 pub returns-then-tag-eq9 : goal.returns-then-tag-eq9
 returns-then-tag-eq9 c = λ p f g t e hf hi h.
     let et = sym (tag_is t h) ∙ sym c.at-tag.ensures.is in
-    call_node (ctx p f g) (omega arith) c.saturating-add-second.ensures c.saturating-add-third.ensures c.args.depth c.call-with.result c.at.result t h (et ∙ c.if-tag-eq9.true) c.at.ensures.is (λ x hx. c.call-with.ensures c.args.row.now _ (c.params-of.ensures p f g x e hf hi hx))
+    call_node (ctx p f g) (omega arith) c.saturating_add-second.ensures c.saturating_add-third.ensures c.args.depth c.call_with.result c.at.result t h (et ∙ c.if-tag-eq9.true) c.at.ensures.is (λ x hx. c.call_with.ensures c.args.row.now _ (c.params_of.ensures p f g x e hf hi hx))
 
 pub returns-then-tag-eq10 : goal.returns-then-tag-eq10
 returns-then-tag-eq10 c = λ p f g t e hf hi h.
     let et = sym (tag_is t h) ∙ sym c.at-tag.ensures.is in
-    table_node (ctx p f g) (omega arith) c.saturating-add-second.ensures c.saturating-add-third.ensures c.args.depth c.call-with-then-tag-eq10.result c.at-then-tag-eq10.result t h (et ∙ c.if-tag-eq10.true) c.at-then-tag-eq10.ensures.is (λ x hx. c.call-with-then-tag-eq10.ensures c.args.row.now _ (c.params_of_table.ensures p f g x e hf hi hx))
+    table_node (ctx p f g) (omega arith) c.saturating_add-second.ensures c.saturating_add-third.ensures c.args.depth c.call_with-then-tag-eq10.result c.at-then-tag-eq10.result t h (et ∙ c.if-tag-eq10.true) c.at-then-tag-eq10.ensures.is (λ x hx. c.call_with-then-tag-eq10.ensures c.args.row.now _ (c.params_of_table.ensures p f g x e hf hi hx))
 
-pub returns-then-has-kind : goal.returns-then-has-kind
-returns-then-has-kind c = λ p f g t e hf hi h.
+pub returns-then-has_kind : goal.returns-then-has_kind
+returns-then-has_kind c = λ p f g t e hf hi h.
     let et = c.at-tag.ensures.is ∙ tag_is t h in
-    let k = c.kind-in-kind.result in
-    does-of t (c.kind-suits.ensures ∙ ap (λ (n : ℕ). suits n k) et) (c.takes-of-words.ensures ∙ ap takes et) (c.gives-of.ensures ∙ ap (λ (n : ℕ). gives n k) et) (named_node (ctx p f g) (omega arith) c.saturating-add-second.ensures c.saturating-add-third.ensures c.args.depth k t (λ x hx. c.kind-in-kind.ensures p f g x e hf hi hx) h (sym (ap wants_kind et) ∙ sym c.if-has-kind.ensures))
+    let k = c.kind_in-kind.result in
+    does-of t (c.kind_suits.ensures ∙ ap (λ (n : ℕ). suits n k) et) (c.takes_of-words.ensures ∙ ap takes et) (c.gives_of.ensures ∙ ap (λ (n : ℕ). gives n k) et) (named_node (ctx p f g) (omega arith) c.saturating_add-second.ensures c.saturating_add-third.ensures c.args.depth k t (λ x hx. c.kind_in-kind.ensures p f g x e hf hi hx) h (sym (ap wants_kind et) ∙ sym c.if-has_kind.ensures))
 
 pub returns : goal.returns
 returns c = λ p f g t e hf hi h.
     let et = c.at-tag.ensures.is ∙ tag_is t h in
     let d = c.args.depth in
     let v = c.at-high.result in
-    does-of t (c.may-stand.ensures ∙ ap (λ (n : ℕ). stands n v d) et) (c.takes-of-words.ensures ∙ ap takes et) (c.gives-of-gives.ensures ∙ ap (λ (n : ℕ). gives n 3) et) (plain_node (ctx p f g) (omega arith) c.saturating-add-second.ensures c.saturating-add-third.ensures d v 3 t c.at-high.ensures.is h (sym (ap wants_kind et) ∙ sym c.if-has-kind.ensures) (λ q. c.if-tag-eq9.false (et ∙ q)) (λ q. c.if-tag-eq10.false (et ∙ q)))
+    does-of t (c.may_stand.ensures ∙ ap (λ (n : ℕ). stands n v d) et) (c.takes_of-words.ensures ∙ ap takes et) (c.gives_of-gives.ensures ∙ ap (λ (n : ℕ). gives n 3) et) (plain_node (ctx p f g) (omega arith) c.saturating_add-second.ensures c.saturating_add-third.ensures d v 3 t c.at-high.ensures.is h (sym (ap wants_kind et) ∙ sym c.if-has_kind.ensures) (λ q. c.if-tag-eq9.false (et ∙ q)) (λ q. c.if-tag-eq10.false (et ∙ q)))

@@ -6,10 +6,10 @@ pub loop-n-init : goal.loop-n-init
 loop-n-init c = λ p f e hf. files-none f e
 
 pub loop-n-preserved : goal.loop-n-preserved
-loop-n-preserved c = λ p f e hf. files_more e (omega arith) hf c.past-name-head.ensures c.if-same-at.ensures c.past-items-place.ensures (c.loop-n.invariant p f e hf)
+loop-n-preserved c = λ p f e hf. files_more e (omega arith) hf c.past_name-head.ensures c.if-same_at.ensures c.past_items-place.ensures (c.loop-n.invariant p f e hf)
 
-pub returns-then-same-at : goal.returns-then-same-at
-returns-then-same-at c = λ p f e hf. files_found e (omega arith) hf c.past-name-head.ensures c.if-same-at.ensures (c.loop-n.invariant p f e hf)
+pub returns-then-same_at : goal.returns-then-same_at
+returns-then-same_at c = λ p f e hf. files_found e (omega arith) hf c.past_name-head.ensures c.if-same_at.ensures (c.loop-n.invariant p f e hf)
 
 pub returns : goal.returns
 returns c = λ p f e hf. files-all e (omega arith) (c.loop-n.invariant p f e hf)

@@ -9,7 +9,7 @@ pub files-preserved : goal.files-preserved
 files-preserved c = (omega arith, λ p f x e hf hx. inner_outer (omega arith) (c.loop-k.invariant.2 p f x e hf hx))
 
 pub loop-k-init : goal.loop-k-init
-loop-k-init c = (omega arith, omega arith, λ p f x e hf hx. outer_inner (omega arith) e (omega arith) hf c.same-at-here.ensures c.past-name-head.ensures c.at-items.ensures.is c.saturating-add.ensures (c.files.invariant.1 p f x e hf hx))
+loop-k-init c = (omega arith, omega arith, λ p f x e hf hx. outer_inner (omega arith) e (omega arith) hf c.same_at-here.ensures c.past_name-head.ensures c.at-items.ensures.is c.saturating_add.ensures (c.files.invariant.1 p f x e hf hx))
 
 pub loop-k-preserved : goal.loop-k-preserved
 loop-k-preserved c = (omega arith, omega arith, λ p f x e hf hx. inner_more (omega arith) hx c.if-declares.ensures c.pass-s.ensures (c.loop-k.invariant.2 p f x e hf hx))

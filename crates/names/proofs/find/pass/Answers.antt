@@ -17,7 +17,7 @@ returns c = λ i h k.
     let lt = bit_le (eqb c.at-kind.result 3) in
     record {
       file = refl;
-      item = c.past-item.ensures i h;
+      item = c.past_item.ensures i h;
       words = omega (arith, h.inside, k.words);
       arrays = omega (arith, h.inside, k.arrays);
       fns = omega (arith, h.inside, k.fns);

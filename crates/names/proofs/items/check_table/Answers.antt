@@ -7,7 +7,7 @@ use Rattle.names.proofs.items.check_table.Goals as goal
 pub returns-in-Some : goal.returns-in-Some
 returns-in-Some c = λ p f xs e hf h.
     let v = c.in-Some.ensures p f xs e hf h in
-    c.are-alike.ensures p f v.params xs e hf v.there h ∙ sym (ap (λ (o : Option (List Param)). opt o false (λ qs. alike p f qs xs)) v.is)
+    c.are_alike.ensures p f v.params xs e hf v.there h ∙ sym (ap (λ (o : Option (List Param)). opt o false (λ qs. alike p f qs xs)) v.is)
 
 pub returns-in-None : goal.returns-in-None
 returns-in-None c = λ p f xs e hf h. sym (ap (λ (o : Option (List Param)). opt o false (λ qs. alike p f qs xs)) (c.in-None.ensures p f xs e hf h))

@@ -8,4 +8,4 @@ returns-in-Some c = λ p f g x e hf hi hx.
 
 pub returns-in-None : goal.returns-in-None
 returns-in-None c = λ p f g x e hf hi hx.
-    kind_else p f g x (c.in-None.ensures g x hi hx) (c.top-kind.ensures p f x e hf hx)
+    kind_else p f g x (c.in-None.ensures g x hi hx) (c.top_kind.ensures p f x e hf hx)

@@ -4,5 +4,5 @@ use Rattle.names.proofs.kinds.own_in.Goals as goal
 
 pub returns : goal.returns
 returns c = λ g x hi hx.
-    let n = c.names-of-names.ensures.names g hi in
-    own-slots g x c.find-own.result (c.find-own.ensures (locals g) x n.here n.long hx)
+    let n = c.names_of-names.ensures.names g hi in
+    own-slots g x c.find_own.result (c.find_own.ensures (locals g) x n.here n.long hx)

@@ -6,4 +6,4 @@ pub returns-then-at-eq0 : goal.returns-then-at-eq0
 returns-then-at-eq0 c = λ p f fs e hf h. first-none p f fs c.at.ensures.is c.if-at-eq0.true h
 
 pub returns-else-at-eq0 : goal.returns-else-at-eq0
-returns-else-at-eq0 c = λ p f fs e hf h. first_some c.params-named.result p f fs (omega arith) c.at.ensures.is c.if-at-eq0.false c.saturating-add.ensures (λ x hx. c.params-named.ensures p f x e hf hx) h
+returns-else-at-eq0 c = λ p f fs e hf h. first_some c.params_named.result p f fs (omega arith) c.at.ensures.is c.if-at-eq0.false c.saturating_add.ensures (λ x hx. c.params_named.ensures p f x e hf hx) h

@@ -5,7 +5,7 @@ use Rattle.names.proofs.OwnNames.{Onces}
 use Rattle.names.proofs.own.all_once.Given as goal
 
 abbrev pub invariant-loop-left : goal.invariant-loop-left
-invariant-loop-left l = (ls : List Local) → Has l.row l.place (list_row local_row ls) → length ls ≡ l.n → Onces l.row ls l.at-entry l.left
+invariant-loop-left l = (ls : List Local) → Has l.row l.place (list_row local_row ls) → length ls ≡ l.n → Onces l.row ls l.at_entry l.left
 
 abbrev pub decreases-loop-left : goal.decreases-loop-left
 decreases-loop-left l = l.left

@@ -6,7 +6,7 @@ use Rattle.names.proofs.OwnNames.{Passed}
 use Rattle.names.proofs.own.find_own.Given as goal
 
 abbrev pub invariant-loop-index : goal.invariant-loop-index
-invariant-loop-index l = (l.index ≤ l.n) × ((ls : List Local) (x : Name) → Has l.row l.place (list_row local_row ls) → length ls ≡ l.n → Has l.row l.name (named x) → Passed l.row ls x l.at-entry l.words l.arrays l.index)
+invariant-loop-index l = (l.index ≤ l.n) × ((ls : List Local) (x : Name) → Has l.row l.place (list_row local_row ls) → length ls ≡ l.n → Has l.row l.name (named x) → Passed l.row ls x l.at_entry l.words l.arrays l.index)
 
 abbrev pub decreases-loop-index : goal.decreases-loop-index
 decreases-loop-index l = l.n - l.index

@@ -9,4 +9,4 @@ pub returns-then-left-e : goal.returns-then-left-e
 returns-then-left-e c = λ ls st l v. fits-no ls st c.args.e.words (omega (arith, piled-long v, l.long))
 
 pub returns : goal.returns
-returns c = λ ls st l v. fits-so ls st (omega arith) l v (omega arith) (omega arith) c.saturating-add-behind.ensures c.are-words.ensures c.are-kinds.ensures
+returns c = λ ls st l v. fits-so ls st (omega arith) l v (omega arith) (omega arith) c.saturating_add-behind.ensures c.are_words.ensures c.are_kinds.ensures

@@ -8,11 +8,11 @@ use Rattle.parser.proofs.file.files.Goals as goal
 pub loop-rest-init : goal.loop-rest-init
 loop-rest-init c = list_none files file_row c.args.text.now c.args.out.now
 
-pub returns-then-at-end : goal.returns-then-at-end
-returns-then-at-end c = list_done files file_row c.requires.ready.short c.loop-rest.invariant (files-end c.loop-rest.rest.now c.if-at-end.ensures)
+pub returns-then-at_end : goal.returns-then-at_end
+returns-then-at_end c = list_done files file_row c.requires.ready.short c.loop-rest.invariant (files-end c.loop-rest.rest.now c.if-at_end.ensures)
 
-pub returns-in-default : goal.returns-in-default
-returns-in-default c = files-stop c.loop-rest.invariant c.if-at-end.ensures c.in-default.ensures
+pub returns-in_default : goal.returns-in_default
+returns-in_default c = files-stop c.loop-rest.invariant c.if-at_end.ensures c.in_default.ensures
 
 pub returns-in-err-rest : goal.returns-in-err-rest
 returns-in-err-rest c = MatchResult-from_err c.from-residual.result _ _ c.from-residual.ensures.0 (λ y. files-fail c.loop-rest.invariant c.in-Some.ensures c.in-err-rest.ensures)

@@ -8,14 +8,14 @@ use Rattle.parser.proofs.file.items.Goals as goal
 pub loop-rest-init : goal.loop-rest-init
 loop-rest-init c = list_none its item_row c.args.text.now c.args.out.now
 
-pub returns-then-at-end : goal.returns-then-at-end
-returns-then-at-end c = list_done its item_row c.requires.ready.short c.loop-rest.invariant (its-end c.loop-rest.rest.now c.if-at-end.ensures)
+pub returns-then-at_end : goal.returns-then-at_end
+returns-then-at_end c = list_done its item_row c.requires.ready.short c.loop-rest.invariant (its-end c.loop-rest.rest.now c.if-at_end.ensures)
 
 pub returns-in-Some : goal.returns-in-Some
 returns-in-Some c = list_done its item_row c.requires.ready.short c.loop-rest.invariant (its-file c.in-Some.ensures)
 
 pub returns-in-err-rest : goal.returns-in-err-rest
-returns-in-err-rest c = MatchResult-from_err c.from-residual.result _ _ c.from-residual.ensures.0 (λ y. its-fail c.loop-rest.invariant c.if-at-end.ensures c.in-default.ensures c.in-err-rest.ensures)
+returns-in-err-rest c = MatchResult-from_err c.from-residual.result _ _ c.from-residual.ensures.0 (λ y. its-fail c.loop-rest.invariant c.if-at_end.ensures c.in_default.ensures c.in-err-rest.ensures)
 
 pub loop-rest-preserved : goal.loop-rest-preserved
-loop-rest-preserved c = its-on c.loop-rest.invariant c.if-at-end.ensures c.in-default.ensures c.in-ok-rest.ensures
+loop-rest-preserved c = its-on c.loop-rest.invariant c.if-at_end.ensures c.in_default.ensures c.in-ok-rest.ensures

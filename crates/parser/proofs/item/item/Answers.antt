@@ -5,22 +5,22 @@ use Rattle.parser.proofs.Items.{by-head, head-var, head-array, head_bytes, head-
 use Rattle.parser.proofs.item.item.Goals as goal
 
 pub returns-in-Some : goal.returns-in-Some
-returns-in-Some c = by-head c.args.out.now c.word-item.new.out k_var h_var c.word-item.result head-var c.in-Some.ensures c.word-item.ensures
+returns-in-Some c = by-head c.args.out.now c.word_item.new.out k_var h_var c.word_item.result head-var c.in-Some.ensures c.word_item.ensures
 
-pub returns-in-Some-eat-word : goal.returns-in-Some-eat-word
-returns-in-Some-eat-word c = by-head c.args.out.now c.array-item.new.out k_array h_array c.array-item.result head-array c.in-Some-eat-word.ensures c.array-item.ensures
+pub returns-in-Some-eat_word : goal.returns-in-Some-eat_word
+returns-in-Some-eat_word c = by-head c.args.out.now c.array_item.new.out k_array h_array c.array_item.result head-array c.in-Some-eat_word.ensures c.array_item.ensures
 
-pub returns-in-Some-eat-word-2 : goal.returns-in-Some-eat-word-2
-returns-in-Some-eat-word-2 c = by-head c.args.out.now c.bytes-item.new.out k_bytes h_bytes c.bytes-item.result head_bytes c.in-Some-eat-word-2.ensures c.bytes-item.ensures
+pub returns-in-Some-eat_word-2 : goal.returns-in-Some-eat_word-2
+returns-in-Some-eat_word-2 c = by-head c.args.out.now c.bytes_item.new.out k_bytes h_bytes c.bytes_item.result head_bytes c.in-Some-eat_word-2.ensures c.bytes_item.ensures
 
-pub returns-in-Some-eat-word-3 : goal.returns-in-Some-eat-word-3
-returns-in-Some-eat-word-3 c = by-head c.args.out.now c.table-item.new.out k_table h_table c.table-item.result head-table c.in-Some-eat-word-3.ensures c.table-item.ensures
+pub returns-in-Some-eat_word-3 : goal.returns-in-Some-eat_word-3
+returns-in-Some-eat_word-3 c = by-head c.args.out.now c.table_item.new.out k_table h_table c.table_item.result head-table c.in-Some-eat_word-3.ensures c.table_item.ensures
 
-pub returns-in-Some-eat-word-4 : goal.returns-in-Some-eat-word-4
-returns-in-Some-eat-word-4 c = by-head c.args.out.now c.use-item.new.out k_use h_use c.use-item.result head_use c.in-Some-eat-word-4.ensures c.use-item.ensures
+pub returns-in-Some-eat_word-4 : goal.returns-in-Some-eat_word-4
+returns-in-Some-eat_word-4 c = by-head c.args.out.now c.use_item.new.out k_use h_use c.use_item.result head_use c.in-Some-eat_word-4.ensures c.use_item.ensures
 
-pub returns-in-default-eat-word-5 : goal.returns-in-default-eat-word-5
-returns-in-default-eat-word-5 c = no-head (pieces gap c.args.text.now) c.in-default.ensures c.in-default-eat-word.ensures c.in-default-eat-word-2.ensures c.in-default-eat-word-3.ensures c.in-default-eat-word-4.ensures c.in-default-eat-word-5.ensures
+pub returns-in_default-eat_word-5 : goal.returns-in_default-eat_word-5
+returns-in_default-eat_word-5 c = no-head (pieces gap c.args.text.now) c.in_default.ensures c.in_default-eat_word.ensures c.in_default-eat_word-2.ensures c.in_default-eat_word-3.ensures c.in_default-eat_word-4.ensures c.in_default-eat_word-5.ensures
 
 pub returns : goal.returns
-returns c = by-head c.args.out.now c.function.new.out k_fn h_fn c.function.result head_fn c.in-Some-eat-word-5.ensures c.function.ensures
+returns c = by-head c.args.out.now c.function.new.out k_fn h_fn c.function.result head_fn c.in-Some-eat_word-5.ensures c.function.ensures

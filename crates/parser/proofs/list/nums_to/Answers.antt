@@ -10,18 +10,18 @@ use Rattle.parser.proofs.list.nums_to.Goals as goal
 pub loop-n-init : goal.loop-n-init
 loop-n-init c = list_none nums_in num_row c.args.text.now c.args.out.now
 
-pub returns-in-default : goal.returns-in-default
-returns-in-default c = list_fail nums_in num_row c.loop-n.invariant (nums-no (pieces gap c.loop-n.rest.now) c.in-default.ensures)
+pub returns-in_default : goal.returns-in_default
+returns-in_default c = list_fail nums_in num_row c.loop-n.invariant (nums-no (pieces gap c.loop-n.rest.now) c.in_default.ensures)
 
-pub returns-in-default-eat-2 : goal.returns-in-default-eat-2
-returns-in-default-eat-2 c = list_fail nums_in num_row c.loop-n.invariant (nums-stop c.in-Some.n c.in-Some.ensures c.in-default-eat.ensures c.in-default-eat-2.ensures)
+pub returns-in_default-eat-2 : goal.returns-in_default-eat-2
+returns-in_default-eat-2 c = list_fail nums_in num_row c.loop-n.invariant (nums-stop c.in-Some.n c.in-Some.ensures c.in_default-eat.ensures c.in_default-eat-2.ensures)
 
 pub returns-in-Some-eat : goal.returns-in-Some-eat
 returns-in-Some-eat c =
     let a = c.in-Some.ensures in let b = c.in-Some-eat.ensures in
-    list_last nums_in num_row c.in-Some.n c.requires.ready.short c.loop-n.invariant (nums-semi c.in-Some.n a b) c.put-num.ensures (num-spent c.in-Some.n t_semi a b c.put-num.ensures) (omega arith)
+    list_last nums_in num_row c.in-Some.n c.requires.ready.short c.loop-n.invariant (nums-semi c.in-Some.n a b) c.put_num.ensures (num-spent c.in-Some.n t_semi a b c.put_num.ensures) (omega arith)
 
 pub loop-n-preserved : goal.loop-n-preserved
 loop-n-preserved c =
     let a = c.in-Some.ensures in let b = c.in-Some-eat-2.ensures in
-    list_on nums_in num_row c.in-Some.n c.loop-n.invariant (nums_comma c.in-Some.n a b) c.put-num-in-loop-n.ensures (num-spent c.in-Some.n t_comma a b c.put-num-in-loop-n.ensures) (omega arith)
+    list_on nums_in num_row c.in-Some.n c.loop-n.invariant (nums_comma c.in-Some.n a b) c.put_num-in-loop-n.ensures (num-spent c.in-Some.n t_comma a b c.put_num-in-loop-n.ensures) (omega arith)

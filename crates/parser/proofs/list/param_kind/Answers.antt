@@ -2,8 +2,8 @@
 use Rattle.parser.proofs.Params.{kind-word, kind-wide, kind_byte}
 use Rattle.parser.proofs.list.param_kind.Goals as goal
 
-pub returns-in-default : goal.returns-in-default
-returns-in-default c = kind-word c.args.text.now c.in-default.ensures
+pub returns-in_default : goal.returns-in_default
+returns-in_default c = kind-word c.args.text.now c.in_default.ensures
 
 pub returns-in-Some-eat : goal.returns-in-Some-eat
 returns-in-Some-eat c = kind-wide c.in-Some.ensures c.in-Some-eat.ensures

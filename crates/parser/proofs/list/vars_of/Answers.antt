@@ -2,8 +2,8 @@
 use Rattle.parser.proofs.Listing.{vars-none, vars-some}
 use Rattle.parser.proofs.list.vars_of.Goals as goal
 
-pub returns-in-default : goal.returns-in-default
-returns-in-default c = vars-none c.args.text.now c.args.out.now c.in-default.ensures
+pub returns-in_default : goal.returns-in_default
+returns-in_default c = vars-none c.args.text.now c.args.out.now c.in_default.ensures
 
 pub returns : goal.returns
-returns c = vars-some c.args.out.now c.names-to.new.out c.names-to.result c.in-Some.ensures c.names-to.ensures
+returns c = vars-some c.args.out.now c.names_to.new.out c.names_to.result c.in-Some.ensures c.names_to.ensures

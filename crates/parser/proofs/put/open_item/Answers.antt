@@ -3,4 +3,4 @@ use Rattle.rows.proofs.Writing.{wrote-more}
 use Rattle.parser.proofs.put.open_item.Goals as goal
 
 pub returns : goal.returns
-returns c = wrote-more c.put2.ensures c.put-name.ensures
+returns c = wrote-more c.put2.ensures c.put_name.ensures

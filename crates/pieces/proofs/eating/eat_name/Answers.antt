@@ -2,5 +2,5 @@
 use Rattle.pieces.proofs.Looking.{no_name, seen-any}
 use Rattle.pieces.proofs.eating.eat_name.Goals as goal
 
-pub returns-in-default : goal.returns-in-default
-returns-in-default c = no_name c.see.result.0 (seen-any c.see.result.0 c.see.ensures) c.in-default.not-Named
+pub returns-in_default : goal.returns-in_default
+returns-in_default c = no_name c.see.result.0 (seen-any c.see.result.0 c.see.ensures) c.in_default.not-Named

@@ -7,6 +7,6 @@ use Rattle.pieces.proofs.lex.skip_gap.Goals as goal
 pub returns : goal.returns
 returns c =
     let t = c.args.text.now in
-    let n = c.gap-len-n.result in
-    let told = c.gap-len-n.ensures in
+    let n = c.gap_len-n.result in
+    let told = c.gap_len-n.ensures in
     subst (Body t) (sym (take_rest t n)) (record { at = n; fits = told.within; is = λ i. drop n t; same = told.same; starts = told.stops })

@@ -15,5 +15,5 @@ returns-in-Tie c =
 pub returns-in-Minus : goal.returns-in-Minus
 returns-in-Minus c = tied 6 (Two 1) Minus (seen_at _ _ Minus c.in-Minus.is c.see.ensures) refl (omega arith)
 
-pub returns-in-default : goal.returns-in-default
-returns-in-default c = untied c.see.result.0 (seen-any c.see.result.0 c.see.ensures) (no_op c.see.result.0 c.in-default.not-Tie c.in-default.not-Minus)
+pub returns-in_default : goal.returns-in_default
+returns-in_default c = untied c.see.result.0 (seen-any c.see.result.0 c.see.ensures) (no_op c.see.result.0 c.in_default.not-Tie c.in_default.not-Minus)

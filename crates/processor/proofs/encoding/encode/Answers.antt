@@ -6,7 +6,7 @@ use Rattle.processor.proofs.encoding.encode.Goals as goal
 
 pub returns : goal.returns
 returns c = record {
-  word = c.lay-out.ensures;
-  means = λ m. ap (λ (w : ℕ). does m w) c.lay-out.ensures ∙ does-encode m c.args.i c.requires;
-  back = ap decode c.lay-out.ensures ∙ decode-encode c.args.i c.requires;
+  word = c.lay_out.ensures;
+  means = λ m. ap (λ (w : ℕ). does m w) c.lay_out.ensures ∙ does-encode m c.args.i c.requires;
+  back = ap decode c.lay_out.ensures ∙ decode-encode c.args.i c.requires;
 }

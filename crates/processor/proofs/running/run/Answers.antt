@@ -10,10 +10,10 @@ returns-then-shown-output c =
     stop_at _ _ _ _ _ c.loop-k.k c.loop-k.taken c.loop-k.shown c.loop-k.output c.loop-k.cpu c.step.new.cpu c.loop-k.mem c.step.new.mem c.loop-k.invariant
     (Out c.in-Out.x) (omega arith) c.in-Out.ensures (c.if-shown-output.true ∙ c.loop-k.invariant.3)
 
-pub returns-in-default : goal.returns-in-default
-returns-in-default c =
+pub returns-in_default : goal.returns-in_default
+returns-in_default c =
     stop_at _ _ _ _ _ c.loop-k.k c.loop-k.taken c.loop-k.shown c.loop-k.output c.loop-k.cpu c.step.new.cpu c.loop-k.mem c.step.new.mem c.loop-k.invariant
-    c.step.result (omega arith) c.step.ensures (stops_else _ _ _ _ _ c.in-default.not-Goes c.in-default.not-Out c.in-default.not-In)
+    c.step.result (omega arith) c.step.ensures (stops_else _ _ _ _ _ c.in_default.not-Goes c.in_default.not-Out c.in_default.not-In)
 
 pub returns : goal.returns
 returns c = stop_last _ _ _ _ _ c.loop-k.k c.loop-k.taken c.loop-k.shown c.loop-k.output c.loop-k.cpu c.loop-k.cpu c.loop-k.mem c.loop-k.mem c.loop-k.invariant (omega arith)

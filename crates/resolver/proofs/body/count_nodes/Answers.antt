@@ -5,7 +5,7 @@ pub loop-n-init : goal.loop-n-init
 loop-n-init c = λ b h. count_none b h
 
 pub loop-n-preserved : goal.loop-n-preserved
-loop-n-preserved c = λ b h. count_more (c.loop-n.invariant b h) c.at.ensures.is c.if-at-eq25.false c.past-node-node.ensures
+loop-n-preserved c = λ b h. count_more (c.loop-n.invariant b h) c.at.ensures.is c.if-at-eq25.false c.past_node-node.ensures
 
 pub returns-then-at-eq25 : goal.returns-then-at-eq25
 returns-then-at-eq25 c = λ b h. count_last (c.loop-n.invariant b h) c.at.ensures.is c.if-at-eq25.true

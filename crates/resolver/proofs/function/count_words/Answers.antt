@@ -6,7 +6,7 @@ pub loop-k-init : goal.loop-k-init
 loop-k-init c = λ ls h l. words-none ls h
 
 pub loop-k-preserved : goal.loop-k-preserved
-loop-k-preserved c = λ ls h l. words_more (omega arith) (omega arith) c.at.ensures.is c.more-words.ensures c.saturating-add.ensures c.past-name-at-entry.ensures (omega arith) (c.loop-k.invariant ls h l)
+loop-k-preserved c = λ ls h l. words_more (omega arith) (omega arith) c.at.ensures.is c.more-words.ensures c.saturating_add.ensures c.past_name-at_entry.ensures (omega arith) (c.loop-k.invariant ls h l)
 
 pub returns : goal.returns
 returns c = λ ls h l. words-all (omega arith) (c.loop-k.invariant ls h l)

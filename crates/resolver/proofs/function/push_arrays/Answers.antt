@@ -14,7 +14,7 @@ loop-k-preserved c =
     let two = pushed_more c.push.ensures c.push-in-loop-k.ensures in
     let lk = c.at-kind.ensures.small in (
       lent-pushed i.0 two,
-      λ bs h l e. walk_more (omega arith) (λ b hb sb. pushed-two (c.word.ensures (omega arith) ∙ array_wide b hb c.at-kind.ensures.is c.saturating-sub.ensures) (c.word-in-loop-k.ensures c.at-size.ensures.small ∙ array_size b hb (omega arith) c.saturating-add.ensures c.at-size.ensures.is sb) two) (λ b hb. array_past b hb (omega arith) c.saturating-add-in-loop-k.ensures c.past-name-at-entry.ensures) (i.1 bs h l e),
+      λ bs h l e. walk_more (omega arith) (λ b hb sb. pushed-two (c.word.ensures (omega arith) ∙ array_wide b hb c.at-kind.ensures.is c.saturating_sub.ensures) (c.word-in-loop-k.ensures c.at-size.ensures.small ∙ array_size b hb (omega arith) c.saturating_add.ensures c.at-size.ensures.is sb) two) (λ b hb. array_past b hb (omega arith) c.saturating_add-in-loop-k.ensures c.past_name-at_entry.ensures) (i.1 bs h l e),
     )
 
 pub returns : goal.returns

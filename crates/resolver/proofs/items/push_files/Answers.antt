@@ -9,8 +9,8 @@ loop-n-init c = (lent_none c.args.out.now, λ p so. walk_none p c.args.out.now (
 pub loop-n-preserved : goal.loop-n-preserved
 loop-n-preserved c =
     let i = c.loop-n.invariant in (
-      lent-more i.0 c.push-items.ensures.lent,
-      λ p so. walk_more (omega (arith, files-count p so.is c.at-files.ensures.is)) (λ f hf kf. c.push-items.ensures.pushed p f.name f.items so kf (file-name f hf c.past-name-head.ensures) (file_items f hf c.past-name-head.ensures)) (λ f hf. file_past f hf c.past-name-head.ensures c.past-items-place.ensures) (i.1 p so),
+      lent-more i.0 c.push_items.ensures.lent,
+      λ p so. walk_more (omega (arith, files-count p so.is c.at-files.ensures.is)) (λ f hf kf. c.push_items.ensures.pushed p f.name f.items so kf (file-name f hf c.past_name-head.ensures) (file_items f hf c.past_name-head.ensures)) (λ f hf. file_past f hf c.past_name-head.ensures c.past_items-place.ensures) (i.1 p so),
     )
 
 pub returns : goal.returns

@@ -10,14 +10,14 @@ returns-then-kind-sort c = record {
 
 pub returns-then-kind-eq4 : goal.returns-then-kind-eq4
 returns-then-kind-eq4 c = record {
-  lent = c.push-function.ensures.lent;
-  pushed = λ p f i so ok hf h. sort_fn p f c.args.sort c.at-kind.ensures.is c.if-kind-sort.false c.if-kind-eq4.true (λ g og hg. c.push-function.ensures.pushed p f g so og hf hg) i ok h;
+  lent = c.push_function.ensures.lent;
+  pushed = λ p f i so ok hf h. sort_fn p f c.args.sort c.at-kind.ensures.is c.if-kind-sort.false c.if-kind-eq4.true (λ g og hg. c.push_function.ensures.pushed p f g so og hf hg) i ok h;
 }
 
 pub returns-then-kind-eq3 : goal.returns-then-kind-eq3
 returns-then-kind-eq3 c = record {
-  lent = c.push-table.ensures.lent;
-  pushed = λ p f i so ok hf h. sort_table p f c.args.sort c.at-kind.ensures.is c.if-kind-sort.false c.if-kind-eq3.true (λ x xs ot ht. c.push-table.ensures.pushed p f x xs so ot hf ht) i ok h;
+  lent = c.push_table.ensures.lent;
+  pushed = λ p f i so ok hf h. sort_table p f c.args.sort c.at-kind.ensures.is c.if-kind-sort.false c.if-kind-eq3.true (λ x xs ot ht. c.push_table.ensures.pushed p f x xs so ot hf ht) i ok h;
 }
 
 pub returns : goal.returns

@@ -12,7 +12,7 @@ pub loop-k-preserved : goal.loop-k-preserved
 loop-k-preserved c =
     let i = c.loop-k.invariant in (
       lent-pushed i.0 c.push.ensures,
-      λ p f xs so hf h k l. walk_more (omega arith) (λ x hx kx. let e = c.function-number.ensures p f x so hf hx kx in pushed_as (ap (λ (n : ℕ). n ∷ []) (c.word.ensures (omega (arith, e, number_fits as_fn f x so)) ∙ e)) c.push.ensures) (λ x hx. c.past-name-name.ensures x hx ∙ omega arith) (i.1 p f xs so hf h k l),
+      λ p f xs so hf h k l. walk_more (omega arith) (λ x hx kx. let e = c.function_number.ensures p f x so hf hx kx in pushed_as (ap (λ (n : ℕ). n ∷ []) (c.word.ensures (omega (arith, e, number_fits as_fn f x so)) ∙ e)) c.push.ensures) (λ x hx. c.past_name-name.ensures x hx ∙ omega arith) (i.1 p f xs so hf h k l),
     )
 
 pub returns : goal.returns

@@ -9,21 +9,21 @@ use Rattle.resolver.proofs.node.resolved_node.Goals as goal
 pub returns-then-tag-eq9 : goal.returns-then-tag-eq9
 returns-then-tag-eq9 c = λ p f g t so ok hf hi h k.
     let et = sym (tag_is t h) ∙ sym c.at-tag.ensures.is in
-    call_words_are p f g (omega arith) c.saturating-add-second.ensures c.saturating-add-third.ensures t so h k (et ∙ c.if-tag-eq9.true) c.at.ensures.is c.at.ensures.small (λ x hx kx. c.function-number.ensures p f x so hf hx kx) c.call-words.ensures
+    call_words_are p f g (omega arith) c.saturating_add-second.ensures c.saturating_add-third.ensures t so h k (et ∙ c.if-tag-eq9.true) c.at.ensures.is c.at.ensures.small (λ x hx kx. c.function_number.ensures p f x so hf hx kx) c.call_words.ensures
 
 pub returns-then-tag-eq10 : goal.returns-then-tag-eq10
 returns-then-tag-eq10 c = λ p f g t so ok hf hi h k.
     let et = sym (tag_is t h) ∙ sym c.at-tag.ensures.is in
-    table_words_are p f g (omega arith) c.saturating-add-second.ensures c.saturating-add-third.ensures t so h k (et ∙ c.if-tag-eq10.true) c.at-then-tag-eq10.ensures.is c.at-then-tag-eq10.ensures.small (λ x hx kx. c.table-number.ensures p f x so hf hx kx) c.call-words-then-tag-eq10.ensures
+    table_words_are p f g (omega arith) c.saturating_add-second.ensures c.saturating_add-third.ensures t so h k (et ∙ c.if-tag-eq10.true) c.at-then-tag-eq10.ensures.is c.at-then-tag-eq10.ensures.small (λ x hx kx. c.table_number.ensures p f x so hf hx kx) c.call_words-then-tag-eq10.ensures
 
-pub returns-then-names-value : goal.returns-then-names-value
-returns-then-names-value c = λ p f g t so ok hf hi h k.
+pub returns-then-names_value : goal.returns-then-names_value
+returns-then-names_value c = λ p f g t so ok hf hi h k.
     let et = c.at-tag.ensures.is ∙ tag_is t h in
     let r = c.refer.result in
-    named_words_are p f g (omega arith) c.saturating-add-second.ensures c.saturating-add-third.ensures t so ok h (sym (ap is_value_name et) ∙ sym c.if-names-value.ensures) (λ x hx. c.refer.ensures p f g x so.is hf hi hx) (λ fits. c.named-words.ensures fits ∙ ap (λ (n : ℕ). node_words (named_by n r)) et)
+    named_words_are p f g (omega arith) c.saturating_add-second.ensures c.saturating_add-third.ensures t so ok h (sym (ap is_value_name et) ∙ sym c.if-names_value.ensures) (λ x hx. c.refer.ensures p f g x so.is hf hi hx) (λ fits. c.named_words.ensures fits ∙ ap (λ (n : ℕ). node_words (named_by n r)) et)
 
 pub returns : goal.returns
 returns c = λ p f g t so ok hf hi h k.
     let et = c.at-tag.ensures.is ∙ tag_is t h in
     let v = c.at_2.result in
-    plain_words_are p f g (omega arith) c.saturating-add-second.ensures c.saturating-add-third.ensures t h k (λ q. c.if-tag-eq9.false (et ∙ q)) (λ q. c.if-tag-eq10.false (et ∙ q)) (sym (ap is_value_name et) ∙ sym c.if-names-value.ensures) c.at_2.ensures.is c.at_2.ensures.small (λ l. c.plain-words.ensures l ∙ ap (λ (n : ℕ). is_plain_tag n ∷ pick (has_value n) v 0 ∷ 0 ∷ []) et)
+    plain_words_are p f g (omega arith) c.saturating_add-second.ensures c.saturating_add-third.ensures t h k (λ q. c.if-tag-eq9.false (et ∙ q)) (λ q. c.if-tag-eq10.false (et ∙ q)) (sym (ap is_value_name et) ∙ sym c.if-names_value.ensures) c.at_2.ensures.is c.at_2.ensures.small (λ l. c.plain_words.ensures l ∙ ap (λ (n : ℕ). is_plain_tag n ∷ pick (has_value n) v 0 ∷ 0 ∷ []) et)

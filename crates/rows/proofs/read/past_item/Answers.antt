@@ -5,6 +5,6 @@ use Rattle.rows.proofs.read.past_item.Goals as goal
 
 pub returns : goal.returns
 returns c = λ i h.
-    let u : c.saturating-add.result ≡ c.args.item + 1 = omega (arith, h.inside) in
+    let u : c.saturating_add.result ≡ c.args.item + 1 = omega (arith, h.inside) in
     let b : c.at.result ≡ length (rest_row i) = c.at.ensures.is ∙ ap (λ (n : ℕ). get_or c.args.row.now n 0) u ∙ has_word (has-next h) in
     omega (arith, h.inside)

@@ -14,8 +14,8 @@ returns-then-at c = λ x y hx hy.
     let ly = has_word hy in
     let kx : c.loop-k.k < length (named x) = omega arith in
     let ky : c.loop-k.k < length (named y) = omega arith in
-    let rx = read_at hx kx (omega arith) c.saturating-add.ensures c.at-in-loop-k.ensures.is in
-    let ry = read_at hy ky (omega arith) c.saturating-add-in-loop-k.ensures c.at-in-loop-k-2.ensures.is in
+    let rx = read_at hx kx (omega arith) c.saturating_add.ensures c.at-in-loop-k.ensures.is in
+    let ry = read_at hy ky (omega arith) c.saturating_add-in-loop-k.ensures c.at-in-loop-k-2.ensures.is in
     sym (c.loop-k.invariant.1 x y hx hy ∙ same_stop (named x) (named y) c.loop-k.k kx ky (λ e. c.if-at.true (rx ∙ e ∙ sym ry)))
 
 pub loop-k-preserved : goal.loop-k-preserved
@@ -26,8 +26,8 @@ loop-k-preserved c = (
       let ly = has_word hy in
       let kx : c.loop-k.k < length (named x) = omega arith in
       let ky : c.loop-k.k < length (named y) = omega arith in
-      let rx = read_at hx kx (omega arith) c.saturating-add.ensures c.at-in-loop-k.ensures.is in
-      let ry = read_at hy ky (omega arith) c.saturating-add-in-loop-k.ensures c.at-in-loop-k-2.ensures.is in
+      let rx = read_at hx kx (omega arith) c.saturating_add.ensures c.at-in-loop-k.ensures.is in
+      let ry = read_at hy ky (omega arith) c.saturating_add-in-loop-k.ensures c.at-in-loop-k-2.ensures.is in
       c.loop-k.invariant.1 x y hx hy ∙ same_more (named x) (named y) c.loop-k.k kx ky (sym rx ∙ c.if-at.false ∙ ry),
 )
 

@@ -14,15 +14,15 @@ loop-i-preserved c = (
       let long = nodes-long vs in
       let inside = h.inside in
       reached-more c.args.resolved.now c.args.base vs c.loop-i.i c.loop-i.here c.loop-i.waiting c.loop-i.places c.loop-i.m c.loop-i.pile c.args.out.now c.loop-i.out
-      c.saturating-add-here.result c.count-behind-waiting.result c.larger-places.result c.turn-m.result c.turn-m.new.pile c.turn-m.new.out
+      c.saturating_add-here.result c.count_behind-waiting.result c.larger-places.result c.turn-m.result c.turn-m.new.pile c.turn-m.new.out
       (c.loop-i.invariant.1 vs h n fit short) (omega arith) (subst (Fit c.args.base vs) (sym c.loop-i.auto.pile) fit) (omega arith) short
       (record {
-        node = c.node-at-node.result;
-        read = c.node-at-node.ensures;
-        counted = c.count-behind-waiting.ensures;
+        node = c.node_at-node.result;
+        read = c.node_at-node.ensures;
+        counted = c.count_behind-waiting.ensures;
         highest = omega arith;
         turned = c.turn-m.ensures;
-        on = c.saturating-add-here.ensures;
+        on = c.saturating_add-here.ensures;
         long = c.turn-m.auto.pile;
       }),
 )

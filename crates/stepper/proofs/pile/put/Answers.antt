@@ -7,7 +7,7 @@ pub returns : goal.returns
 returns c = record {
   first = refl;
   base = refl;
-  height = c.saturating-add.ensures;
+  height = c.saturating_add.ensures;
   waiting = refl;
   head = refl;
   next = refl;

@@ -9,6 +9,6 @@ returns c = λ b v h k.
     let l = node-long v in
     let i = k.inside in
     ap meant c.decode.ensures
-    ∙ node-is b v c.args.row.now c.args.place c.word-at.result c.word-at-2.result c.word-at-3.result h k c.word-at.ensures
-    (c.word-at-2.ensures ∙ ap (λ (n : ℕ). get_or c.args.row.now n 0) (omega arith))
-    (c.word-at-3.ensures ∙ ap (λ (n : ℕ). get_or c.args.row.now n 0) (omega arith))
+    ∙ node-is b v c.args.row.now c.args.place c.word_at.result c.word_at-2.result c.word_at-3.result h k c.word_at.ensures
+    (c.word_at-2.ensures ∙ ap (λ (n : ℕ). get_or c.args.row.now n 0) (omega arith))
+    (c.word_at-3.ensures ∙ ap (λ (n : ℕ). get_or c.args.row.now n 0) (omega arith))

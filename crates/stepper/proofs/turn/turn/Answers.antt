@@ -32,7 +32,7 @@ pub returns-in-Else : goal.returns-in-Else
 returns-in-Else c = at-node Else c.in-Else.is (c.otherwise.ensures c.args.pile.now)
 
 pub returns-in-Loop : goal.returns-in-Loop
-returns-in-Loop c = at-node Loop c.in-Loop.is (c.open-loop.ensures c.args.pile.now)
+returns-in-Loop c = at-node Loop c.in-Loop.is (c.open_loop.ensures c.args.pile.now)
 
 pub returns-in-Again : goal.returns-in-Again
 returns-in-Again c = at-node Again c.in-Again.is (c.again.ensures c.args.pile.now)

@@ -14,6 +14,6 @@ returns c h =
     let here = c.args.self.now.here in
     let e : c.few.result ≡ n = omega arith in
     put_then (reals 0 (loads 10 k n)) (Jal 1 (rel (here + n) c.args.entry.0) ∷ Sw 2 10 (off (suc c.args.to.0)) ∷ [])
-    (put_as (ap (λ x. reals 0 (loads 10 k x)) e) c.load-arguments.ensures)
+    (put_as (ap (λ x. reals 0 (loads 10 k x)) e) c.load_arguments.ensures)
     (put-more c.jump.ensures (put_as1 c.store.ensures.is c.put.ensures))
     (λ q. ap (λ x. Jal 1 (rel x c.args.entry.0) ∷ Sw 2 10 (off (suc c.args.to.0)) ∷ []) (q ∙ ap (λ x. here + x) (reals-length 0 (loads 10 k n) ∙ loads-long 10 k n)))

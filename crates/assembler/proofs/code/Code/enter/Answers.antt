@@ -14,5 +14,5 @@ returns c h =
     (put-more (put_as (frame-number 6 f.places _ (search rules)) c.number.ensures)
     (put-more (put_as3 refl c.small.ensures refl c.put3.ensures)
     (put-more c.put2-2.ensures
-    (put-more (put_as (ap (λ n. reals 0 (stores (λ j. 10 + j) 0 n)) e) c.store-arguments.ensures)
+    (put-more (put_as (ap (λ n. reals 0 (stores (λ j. 10 + j) 0 n)) e) c.store_arguments.ensures)
     (put-more (put_as1 c.small-2.ensures c.put.ensures) c.clear.ensures))))))

@@ -5,4 +5,4 @@ use Rattle.assembler.proofs.code.Code.put.Goals as goal
 
 pub returns-then-here-self : goal.returns-then-here-self
 returns-then-here-self c =
-    put_word c.lay-out-parts.ensures (take_more_set c.args.self.now.words.now c.args.self.now.here c.lay-out-parts.result (omega arith)) refl (length-set c.args.self.now.words.now c.args.self.now.here c.lay-out-parts.result) refl
+    put_word c.lay_out_parts.ensures (take_more_set c.args.self.now.words.now c.args.self.now.here c.lay_out_parts.result (omega arith)) refl (length-set c.args.self.now.words.now c.args.self.now.here c.lay_out_parts.result) refl

@@ -8,7 +8,7 @@ loop-i-init c m g begin ss fr h k = emitting_to (omega arith) (emitting_first m 
 pub loop-i-preserved : goal.loop-i-preserved
 loop-i-preserved c m g begin ss fr h k =
     let z : c.args.f.function.steps - c.loop-i.i ≡ suc (c.args.f.function.steps - (c.loop-i.i + 1)) = omega arith in
-    emitting_more fr (emitting_to z (c.loop-i.invariant m g begin ss fr h k)) (omega arith) c.step-from.ensures c.saturating-add-next.ensures
+    emitting_more fr (emitting_to z (c.loop-i.invariant m g begin ss fr h k)) (omega arith) c.step_from.ensures c.saturating_add-next.ensures
 
 pub returns : goal.returns
 returns c m g begin ss fr h k =
