@@ -9,25 +9,25 @@ use Rattle.bodies.proofs.expr.+arg_args_brackets_by_table_chain_climb_more_args_
 
 -- arguments
 pub arg-returns : goal.arg-returns
-arg-returns t c = arg_did c.in-ok-rest.ensures c.mark_arg.ensures
+arg-returns t c = arg_did c.in_ok-rest.ensures c.mark_arg.ensures
 
 pub args-returns-in-Some : goal.args-returns-in-Some
 args-returns-in-Some t c = args-zero c.args.out.now c.in-Some.ensures
 
-pub args-returns-in-err-rest : goal.args-returns-in-err-rest
-args-returns-in-err-rest t c = MatchResult-from_err c.from-residual.result _ _ c.from-residual.ensures.0 (λ y. args_of_more (pieces gap c.args.text.now) c.in_default.ensures ∙ bind-fail _ c.in-err-rest.ensures)
+pub args-returns-in_err-rest : goal.args-returns-in_err-rest
+args-returns-in_err-rest t c = MatchResult-from_err c.from_residual.result _ _ c.from_residual.ensures.0 (λ y. args_of_more (pieces gap c.args.text.now) c.in_default.ensures ∙ bind-fail _ c.in_err-rest.ensures)
 
-pub args-returns-in-err-count : goal.args-returns-in-err-count
-args-returns-in-err-count t c = MatchResult-from_err c.from-residual-in-err-count.result _ _ c.from-residual-in-err-count.ensures.0 (λ y. args-some-fail c.in_default.ensures c.in-ok-rest.ensures c.in-err-count.ensures.did)
+pub args-returns-in_err-count : goal.args-returns-in_err-count
+args-returns-in_err-count t c = MatchResult-from_err c.from_residual-in_err-count.result _ _ c.from_residual-in_err-count.ensures.0 (λ y. args-some-fail c.in_default.ensures c.in_ok-rest.ensures c.in_err-count.ensures.did)
 
 pub args-returns : goal.args-returns
-args-returns t c = args-some c.in_default.ensures c.in-ok-rest.ensures c.in-ok-count.ensures.did
+args-returns t c = args-some c.in_default.ensures c.in_ok-rest.ensures c.in_ok-count.ensures.did
 
 pub more_args-loop-behind-init : goal.more_args-loop-behind-init
 more_args-loop-behind-init t c = args_none c.args.text.now c.args.out.now
 
 pub more_args-loop-behind-preserved : goal.more_args-loop-behind-preserved
-more_args-loop-behind-preserved t c = args_more c.loop-behind.invariant c.in-Some-eat.ensures c.in-ok-rest.ensures
+more_args-loop-behind-preserved t c = args_more c.loop-behind.invariant c.in-Some-eat.ensures c.in_ok-rest.ensures
 
 pub more_args-returns-in-Some : goal.more_args-returns-in-Some
 more_args-returns-in-Some t c = let f = c.loop-behind.invariant.few in record { few = omega arith; did = args-all c.loop-behind.invariant c.in-Some.ensures }
@@ -35,8 +35,8 @@ more_args-returns-in-Some t c = let f = c.loop-behind.invariant.few in record { 
 pub more_args-returns-in_default-eat : goal.more_args-returns-in_default-eat
 more_args-returns-in_default-eat t c = record { few = tt; did = args-refused c.loop-behind.invariant (args-fail (pieces gap c.loop-behind.rest.now) c.in_default.ensures c.in_default-eat.ensures) }
 
-pub more_args-returns-in-err-rest : goal.more_args-returns-in-err-rest
-more_args-returns-in-err-rest t c = record { few = search rules; did = MatchResult-from_err c.from-residual.result _ _ c.from-residual.ensures.0 (λ y. args-refused c.loop-behind.invariant (args_comma c.in-Some-eat.ensures ∙ bind-fail _ c.in-err-rest.ensures)) }
+pub more_args-returns-in_err-rest : goal.more_args-returns-in_err-rest
+more_args-returns-in_err-rest t c = record { few = search rules; did = MatchResult-from_err c.from_residual.result _ _ c.from_residual.ensures.0 (λ y. args-refused c.loop-behind.invariant (args_comma c.in-Some-eat.ensures ∙ bind-fail _ c.in_err-rest.ensures)) }
 
 -- a call through a table
 pub by_table-returns-in_default : goal.by_table-returns-in_default
@@ -46,36 +46,36 @@ pub by_table-returns-in_default-eat : goal.by_table-returns-in_default-eat
 by_table-returns-in_default-eat t c = table_open c.in-Some.x.now c.in-Some.ensures c.in_default-eat.ensures
 
 pub by_table-returns : goal.by_table-returns
-by_table-returns t c = table-did c.in-Some.x.now c.in-Some.ensures c.in-Some-eat.ensures c.in-ok-rest.ensures c.in-Some-eat-2.ensures c.in-Some-eat-3.ensures c.in-ok-count.ensures c.put_call.ensures
+by_table-returns t c = table-did c.in-Some.x.now c.in-Some.ensures c.in-Some-eat.ensures c.in_ok-rest.ensures c.in-Some-eat-2.ensures c.in-Some-eat-3.ensures c.in_ok-count.ensures c.put_call.ensures
 
 -- chains
 pub chain-loop-tight-init : goal.chain-loop-tight-init
 chain-loop-tight-init t c = far_none c.args.level c.args.text.now c.args.out.now
 
 pub chain-loop-tight-preserved : goal.chain-loop-tight-preserved
-chain-loop-tight-preserved t c = far-more c.in-Some.op c.loop-tight.invariant c.in-Some.ensures (omega arith) c.put_mid.ensures c.in-ok-rest.ensures c.put_post.ensures
+chain-loop-tight-preserved t c = far-more c.in-Some.op c.loop-tight.invariant c.in-Some.ensures (omega arith) c.put_mid.ensures c.in_ok-rest.ensures c.put_post.ensures
 
 pub chain-returns-in_default : goal.chain-returns-in_default
 chain-returns-in_default t c = far-end c.loop-tight.invariant (c.in_default.ensures c.args.level)
 
 pub climb-returns : goal.climb-returns
-climb-returns t c = climb-by c.chain.new.out c.args.level c.chain.result c.in-ok-rest.ensures c.chain.ensures
+climb-returns t c = climb-by c.chain.new.out c.args.level c.chain.result c.in_ok-rest.ensures c.chain.ensures
 
 -- names
-pub name-returns-in-err-count : goal.name-returns-in-err-count
-name-returns-in-err-count t c = MatchResult-from_err c.from-residual.result _ _ c.from-residual.ensures.0 (λ y. name-call c.args.x.now c.in-Some.ensures ∙ bind-fail _ c.in-err-count.ensures)
+pub name-returns-in_err-count : goal.name-returns-in_err-count
+name-returns-in_err-count t c = MatchResult-from_err c.from_residual.result _ _ c.from_residual.ensures.0 (λ y. name-call c.args.x.now c.in-Some.ensures ∙ bind-fail _ c.in_err-count.ensures)
 
 pub name-returns-in-Some : goal.name-returns-in-Some
-name-returns-in-Some t c = call-did c.args.x.now c.requires.some c.in-Some.ensures c.in-ok-count.ensures c.put_call.ensures
+name-returns-in-Some t c = call-did c.args.x.now c.requires.some c.in-Some.ensures c.in_ok-count.ensures c.put_call.ensures
 
-pub name-returns-in-err-rest : goal.name-returns-in-err-rest
-name-returns-in-err-rest t c = MatchResult-from_err c.from-residual-in-err-rest.result _ _ c.from-residual-in-err-rest.ensures.0 (λ y. name-index c.args.x.now c.in-Some-eat.ensures ∙ bind-fail _ c.in-err-rest.ensures)
+pub name-returns-in_err-rest : goal.name-returns-in_err-rest
+name-returns-in_err-rest t c = MatchResult-from_err c.from_residual-in_err-rest.result _ _ c.from_residual-in_err-rest.ensures.0 (λ y. name-index c.args.x.now c.in-Some-eat.ensures ∙ bind-fail _ c.in_err-rest.ensures)
 
 pub name-returns-in_default-eat-2 : goal.name-returns-in_default-eat-2
-name-returns-in_default-eat-2 t c = index_open c.args.x.now c.in-Some-eat.ensures c.in-ok-rest.ensures c.in_default-eat-2.ensures
+name-returns-in_default-eat-2 t c = index_open c.args.x.now c.in-Some-eat.ensures c.in_ok-rest.ensures c.in_default-eat-2.ensures
 
 pub name-returns-in-Some-eat : goal.name-returns-in-Some-eat
-name-returns-in-Some-eat t c = index-did c.args.x.now c.requires.some c.in-Some-eat.ensures c.in-ok-rest.ensures c.in-Some-eat-2.ensures c.put_named.ensures
+name-returns-in-Some-eat t c = index-did c.args.x.now c.requires.some c.in-Some-eat.ensures c.in_ok-rest.ensures c.in-Some-eat-2.ensures c.put_named.ensures
 
 pub name-returns : goal.name-returns
 name-returns t c = var-did c.args.x.now c.requires.some c.in_default.ensures c.in_default-eat.ensures c.put_named-2.ensures
@@ -109,4 +109,4 @@ pub one-returns-in_default : goal.one-returns-in_default
 one-returns-in_default t c = one_none c.see.result.0 (seen-any c.see.result.0 c.see.ensures) c.in_default.not-Num c.in_default.not-Named c.in_default.not-Minus c.in_default.not-Before c.in_default.not-OpenRound c.in_default.not-Len c.in_default.not-Call c.in_default.not-In
 
 pub signed-returns : goal.signed-returns
-signed-returns t c = signed-did c.args.o c.in-ok-rest.ensures c.put2.ensures
+signed-returns t c = signed-did c.args.o c.in_ok-rest.ensures c.put2.ensures

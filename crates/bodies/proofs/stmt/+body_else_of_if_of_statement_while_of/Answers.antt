@@ -12,7 +12,7 @@ pub body-loop-behind-init : goal.body-loop-behind-init
 body-loop-behind-init t c = body-none c.args.text.now c.args.out.now
 
 pub body-loop-behind-preserved : goal.body-loop-behind-preserved
-body-loop-behind-preserved t c = body-on c.loop-behind.invariant c.in_default.ensures c.in-ok-rest.ensures
+body-loop-behind-preserved t c = body-on c.loop-behind.invariant c.in_default.ensures c.in_ok-rest.ensures
 
 pub body-returns-in-Some : goal.body-returns-in-Some
 body-returns-in-Some t c = body-did c.loop-behind.invariant c.in-Some.ensures
@@ -20,17 +20,17 @@ body-returns-in-Some t c = body-did c.loop-behind.invariant c.in-Some.ensures
 pub body-returns-then-at_end : goal.body-returns-then-at_end
 body-returns-then-at_end t c = body-fail c.loop-behind.invariant c.in_default.ensures (stmt-nil (pieces gap c.loop-behind.rest.now) c.if-at_end.ensures)
 
-pub body-returns-in-err-rest : goal.body-returns-in-err-rest
-body-returns-in-err-rest t c = MatchResult-from_err c.from-residual.result _ _ c.from-residual.ensures.0 (λ y. body-fail c.loop-behind.invariant c.in_default.ensures c.in-err-rest.ensures)
+pub body-returns-in_err-rest : goal.body-returns-in_err-rest
+body-returns-in_err-rest t c = MatchResult-from_err c.from_residual.result _ _ c.from_residual.ensures.0 (λ y. body-fail c.loop-behind.invariant c.in_default.ensures c.in_err-rest.ensures)
 
 pub else_of-returns-in_default : goal.else_of-returns-in_default
 else_of-returns-in_default t c = else_did c.args.text.now c.args.out.now c.in_default.ensures
 
 pub if_of-returns : goal.if_of-returns
-if_of-returns t c = if_did c.in-ok-rest.ensures c.in-Some.ensures c.put.ensures c.in-ok-rest-2.ensures c.put-2.ensures c.in-ok-rest-3.ensures c.put-3.ensures
+if_of-returns t c = if_did c.in_ok-rest.ensures c.in-Some.ensures c.put.ensures c.in_ok-rest-2.ensures c.put-2.ensures c.in_ok-rest-3.ensures c.put-3.ensures
 
 pub while_of-returns : goal.while_of-returns
-while_of-returns t c = while_did c.put.ensures c.in-ok-rest.ensures c.in-Some.ensures c.put-2.ensures c.in-ok-rest-2.ensures c.put-3.ensures
+while_of-returns t c = while_did c.put.ensures c.in_ok-rest.ensures c.in-Some.ensures c.put-2.ensures c.in_ok-rest-2.ensures c.put-3.ensures
 
 pub statement-returns-in-Out : goal.statement-returns-in-Out
 statement-returns-in-Out t c = st_semi c.args.out.now c.with_semi.new.out c.with_semi.result Out (led_at _ _ Out c.in-Out.is c.see_lead.ensures) out1 15 refl st_out c.with_semi.ensures

@@ -21,4 +21,4 @@ returns c =
     let le : 5 ≤ length s = omega arith in
     let k : get_or s 0 0 ≡ 19525 = omega arith in
     let w : Whole s = omega (arith, simp (length-take, length-drop) at c.if-words-bodies.false) in
-    sound-row s _ _ le k w c.split_at.ensures.front c.split_at.ensures.back (omega (arith, c.type-inv.image 2)) (omega (arith, c.type-inv.image 3)) (omega arith) c.if-not-all_below.ensures
+    sound-row s _ _ le k w c.split_at.ensures.front c.split_at.ensures.back (omega (arith, c.type_inv.image 2)) (omega (arith, c.type_inv.image 3)) (omega arith) c.if-not-all_below.ensures

@@ -9,8 +9,8 @@ returns c = record {
       let k = has-next (has-next (has-next h)) in
       record {
         params = c.at.ensures.is ∙ has_word h;
-        vars = read_at {k = 1} h (omega arith) (omega arith) c.saturating_add.ensures c.at_2.ensures.is;
-        arrays = read_at {k = 2} h (omega arith) (omega arith) c.saturating_add-2.ensures c.at_3.ensures.is;
+        vars = read_at {k = 1} h (omega arith) (omega arith) c.saturating_add.ensures c.at-2.ensures.is;
+        arrays = read_at {k = 2} h (omega arith) (omega arith) c.saturating_add-2.ensures c.at-3.ensures.is;
         names = omega (arith, k.inside);
         here = has_to (omega (arith, k.inside)) k;
       };

@@ -12,13 +12,13 @@ loop-left-init c = λ wide ns q h e. rest-first ns h e refl
 pub loop-left-preserved : goal.loop-left-preserved
 loop-left-preserved c = λ wide ns q h e.
     rest-next (omega arith) (λ m k. omega (arith, k.inside, c.saturating_add-here.ensures))
-    (λ m ms k hr l p. p ∙ ap (λ (t : Bool). t && words_ok wide ms) (lt-ltb m (pick wide all 256) (omega (arith, c.number_at-value.ensures m k, c.if-value_limit.false))))
+    (λ m ms k hr l p. p ∙ ap (λ (t : Bool). t && words_ok wide ms) (lt-ltb m (pick wide all 256) (omega (arith, c.number_at-value.ensures m k, c.if-value-limit.false))))
     (c.loop-left.invariant wide ns q h e)
 
-pub returns-then-value_limit : goal.returns-then-value_limit
-returns-then-value_limit c = λ wide ns q h e.
+pub returns-then-value-limit : goal.returns-then-value-limit
+returns-then-value-limit c = λ wide ns q h e.
     rest-found (omega arith)
-    (λ m ms k p. sym (p ∙ ap (λ (t : Bool). t && words_ok wide ms) (le-ltb m (pick wide all 256) (omega (arith, c.number_at-value.ensures m k, c.if-value_limit.true)))))
+    (λ m ms k p. sym (p ∙ ap (λ (t : Bool). t && words_ok wide ms) (le-ltb m (pick wide all 256) (omega (arith, c.number_at-value.ensures m k, c.if-value-limit.true)))))
     (c.loop-left.invariant wide ns q h e)
 
 pub returns : goal.returns

@@ -12,7 +12,7 @@ returns-then-tag-eq9 c = λ p f g t e hf hi h.
 pub returns-then-tag-eq10 : goal.returns-then-tag-eq10
 returns-then-tag-eq10 c = λ p f g t e hf hi h.
     let et = sym (tag_is t h) ∙ sym c.at-tag.ensures.is in
-    table_node (ctx p f g) (omega arith) c.saturating_add-second.ensures c.saturating_add-third.ensures c.args.depth c.call_with-then-tag-eq10.result c.at-then-tag-eq10.result t h (et ∙ c.if-tag-eq10.true) c.at-then-tag-eq10.ensures.is (λ x hx. c.call_with-then-tag-eq10.ensures c.args.row.now _ (c.params_of_table.ensures p f g x e hf hi hx))
+    table_node (ctx p f g) (omega arith) c.saturating_add-second.ensures c.saturating_add-third.ensures c.args.depth c.call_with-then-tag-eq10.result c.at-then-tag-eq10.result t h (et ∙ c.if-tag-eq10.true) c.at-then-tag-eq10.ensures.is (λ x hx. c.call_with-then-tag-eq10.ensures c.args.row.now _ (c.params_table.ensures p f g x e hf hi hx))
 
 pub returns-then-has_kind : goal.returns-then-has_kind
 returns-then-has_kind c = λ p f g t e hf hi h.

@@ -14,8 +14,8 @@ returns-then-at_end c = list_done files file_row c.requires.ready.short c.loop-r
 pub returns-in_default : goal.returns-in_default
 returns-in_default c = files-stop c.loop-rest.invariant c.if-at_end.ensures c.in_default.ensures
 
-pub returns-in-err-rest : goal.returns-in-err-rest
-returns-in-err-rest c = MatchResult-from_err c.from-residual.result _ _ c.from-residual.ensures.0 (λ y. files-fail c.loop-rest.invariant c.in-Some.ensures c.in-err-rest.ensures)
+pub returns-in_err-rest : goal.returns-in_err-rest
+returns-in_err-rest c = MatchResult-from_err c.from_residual.result _ _ c.from_residual.ensures.0 (λ y. files-fail c.loop-rest.invariant c.in-Some.ensures c.in_err-rest.ensures)
 
 pub loop-rest-preserved : goal.loop-rest-preserved
-loop-rest-preserved c = files-on c.loop-rest.invariant c.in-Some.ensures c.in-ok-rest.ensures
+loop-rest-preserved c = files-on c.loop-rest.invariant c.in-Some.ensures c.in_ok-rest.ensures

@@ -14,8 +14,8 @@ returns-then-at_end c = list_done its item_row c.requires.ready.short c.loop-res
 pub returns-in-Some : goal.returns-in-Some
 returns-in-Some c = list_done its item_row c.requires.ready.short c.loop-rest.invariant (its-file c.in-Some.ensures)
 
-pub returns-in-err-rest : goal.returns-in-err-rest
-returns-in-err-rest c = MatchResult-from_err c.from-residual.result _ _ c.from-residual.ensures.0 (λ y. its-fail c.loop-rest.invariant c.if-at_end.ensures c.in_default.ensures c.in-err-rest.ensures)
+pub returns-in_err-rest : goal.returns-in_err-rest
+returns-in_err-rest c = MatchResult-from_err c.from_residual.result _ _ c.from_residual.ensures.0 (λ y. its-fail c.loop-rest.invariant c.if-at_end.ensures c.in_default.ensures c.in_err-rest.ensures)
 
 pub loop-rest-preserved : goal.loop-rest-preserved
-loop-rest-preserved c = its-on c.loop-rest.invariant c.if-at_end.ensures c.in_default.ensures c.in-ok-rest.ensures
+loop-rest-preserved c = its-on c.loop-rest.invariant c.if-at_end.ensures c.in_default.ensures c.in_ok-rest.ensures

@@ -4,8 +4,8 @@ use Rattle.std.proofs.lemmas.Result.{MatchResult-from_err}
 use Rattle.parser.proofs.Files.{read_fail, read_did}
 use Rattle.parser.proofs.file.parse.Goals as goal
 
-pub returns-in-err-count : goal.returns-in-err-count
-returns-in-err-count c = MatchResult-from_err c.from-residual-in-err-count.result _ _ c.from-residual-in-err-count.ensures.0 (λ y. read_fail c.args.text.now c.in-err-count.ensures)
+pub returns-in_err-count : goal.returns-in_err-count
+returns-in_err-count c = MatchResult-from_err c.from_residual-in_err-count.result _ _ c.from_residual-in_err-count.ensures.0 (λ y. read_fail c.args.text.now c.in_err-count.ensures)
 
 pub returns : goal.returns
-returns c = read_did (omega arith) c.in-ok-check_flat.ensures c.put.ensures c.in-ok-count.ensures c.set.ensures
+returns c = read_did (omega arith) c.in_ok-check_flat.ensures c.put.ensures c.in_ok-count.ensures c.set.ensures

@@ -7,14 +7,14 @@ use Rattle.parser.proofs.item.array_item.Goals as goal
 pub returns-in_default : goal.returns-in_default
 returns-in_default c = no-name-array (pieces gap c.args.text.now) c.in_default.ensures
 
-pub returns-in-err-count : goal.returns-in-err-count
-returns-in-err-count c = MatchResult-from_err c.from-residual.result _ _ c.from-residual.ensures.0 (λ y. data_fail c.in-Some.x.now c.in-Some.ensures c.in-Some-eat.ensures c.in-err-count.ensures)
+pub returns-in_err-count : goal.returns-in_err-count
+returns-in_err-count c = MatchResult-from_err c.from_residual.result _ _ c.from_residual.ensures.0 (λ y. data_fail c.in-Some.x.now c.in-Some.ensures c.in-Some-eat.ensures c.in_err-count.ensures)
 
 pub returns-in-Some-eat : goal.returns-in-Some-eat
-returns-in-Some-eat c = data_did c.in-Some.x.now c.in-Some.ensures c.in-Some-eat.ensures c.open_item.ensures c.put2.ensures c.in-ok-count.ensures c.set.ensures c.close_item.ensures
+returns-in-Some-eat c = data_did c.in-Some.x.now c.in-Some.ensures c.in-Some-eat.ensures c.open_item.ensures c.put2.ensures c.in_ok-count.ensures c.set.ensures c.close_item.ensures
 
-pub returns-in-err-n : goal.returns-in-err-n
-returns-in-err-n c = MatchResult-from_err c.from-residual-in-err-n.result _ _ c.from-residual-in-err-n.ensures.0 (λ y. array-fail c.in-Some.x.now c.in-Some.ensures c.in_default-eat.ensures c.in-err-n.ensures)
+pub returns-in_err-n : goal.returns-in_err-n
+returns-in_err-n c = MatchResult-from_err c.from_residual-in_err-n.result _ _ c.from_residual-in_err-n.ensures.0 (λ y. array-fail c.in-Some.x.now c.in-Some.ensures c.in_default-eat.ensures c.in_err-n.ensures)
 
 pub returns : goal.returns
-returns c = array-did c.in-Some.x.now c.in-ok-n.n c.in-Some.ensures c.in_default-eat.ensures c.in-ok-n.ensures c.open_item-2.ensures c.put3.ensures c.close_item-2.ensures
+returns c = array-did c.in-Some.x.now c.in_ok-n.n c.in-Some.ensures c.in_default-eat.ensures c.in_ok-n.ensures c.open_item-2.ensures c.put3.ensures c.close_item-2.ensures

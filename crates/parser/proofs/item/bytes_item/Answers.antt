@@ -18,11 +18,11 @@ returns-in_default-eat-2 c = text_open c.in-Some.x.now c.in-Some-eat_text.w.now 
 pub returns-in-Some-eat : goal.returns-in-Some-eat
 returns-in-Some-eat c = text_did c.in-Some.x.now c.in-Some-eat_text.w.now c.in-Some.ensures c.in-Some-eat.ensures c.in-Some-eat_text.ensures c.in-Some-eat-2.ensures c.open_item.ensures c.put2.ensures c.put_text.ensures c.close_item.ensures
 
-pub returns-in-err-n : goal.returns-in-err-n
-returns-in-err-n c = MatchResult-from_err c.from-residual.result _ _ c.from-residual.ensures.0 (λ y. bytes-fail c.in-Some.x.now c.in-Some.ensures c.in_default-eat.ensures c.in-err-n.ensures)
+pub returns-in_err-n : goal.returns-in_err-n
+returns-in_err-n c = MatchResult-from_err c.from_residual.result _ _ c.from_residual.ensures.0 (λ y. bytes-fail c.in-Some.x.now c.in-Some.ensures c.in_default-eat.ensures c.in_err-n.ensures)
 
 pub returns : goal.returns
-returns c = bytes-did c.in-Some.x.now c.in-ok-n.n c.in-Some.ensures c.in_default-eat.ensures c.in-ok-n.ensures c.open_item-2.ensures c.put3.ensures c.close_item-2.ensures
+returns c = bytes-did c.in-Some.x.now c.in_ok-n.n c.in-Some.ensures c.in_default-eat.ensures c.in_ok-n.ensures c.open_item-2.ensures c.put3.ensures c.close_item-2.ensures
 
 pub close_item-requires : goal.close_item-requires
 close_item-requires c =

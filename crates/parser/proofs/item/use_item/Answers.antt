@@ -7,7 +7,7 @@ pub returns-in_default : goal.returns-in_default
 returns-in_default c = no-name_use (pieces gap c.args.text.now) c.in_default.ensures
 
 pub returns : goal.returns
-returns c = use_did c.in-Some.x.now c.in-Some.ensures c.in-Some-eat.ensures c.open_item.ensures c.put.ensures c.in-ok-count.ensures c.set.ensures c.close_item.ensures
+returns c = use_did c.in-Some.x.now c.in-Some.ensures c.in-Some-eat.ensures c.open_item.ensures c.put.ensures c.in_ok-count.ensures c.set.ensures c.close_item.ensures
 
 pub returns-in_default-eat : goal.returns-in_default-eat
 returns-in_default-eat c = use_open c.in-Some.x.now c.in-Some.ensures c.in_default-eat.ensures

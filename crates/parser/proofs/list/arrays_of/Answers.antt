@@ -11,16 +11,16 @@ pub loop-behind-init : goal.loop-behind-init
 loop-behind-init c = list_none arrs array_row c.args.text.now c.args.out.now
 
 pub loop-behind-preserved-in-Some : goal.loop-behind-preserved-in-Some
-loop-behind-preserved-in-Some c = arrs-on k_array true c.loop-behind.invariant c.in-Some.ensures (arrs-wide c.in-Some.ensures) c.in-ok-rest.ensures
+loop-behind-preserved-in-Some c = arrs-on k_array true c.loop-behind.invariant c.in-Some.ensures (arrs-wide c.in-Some.ensures) c.in_ok-rest.ensures
 
 pub loop-behind-preserved : goal.loop-behind-preserved
-loop-behind-preserved c = arrs-on k_bytes false c.loop-behind.invariant c.in-Some-eat_word.ensures (arrs_byte c.in-Some-eat_word.ensures) c.in-ok-rest-2.ensures
+loop-behind-preserved c = arrs-on k_bytes false c.loop-behind.invariant c.in-Some-eat_word.ensures (arrs_byte c.in-Some-eat_word.ensures) c.in_ok-rest-2.ensures
 
-pub returns-in-err-rest : goal.returns-in-err-rest
-returns-in-err-rest c = MatchResult-from_err c.from-residual.result _ _ c.from-residual.ensures.0 (λ y. arrs-fail c.in-Some.behind.now true c.loop-behind.invariant (arrs-wide c.in-Some.ensures) c.in-err-rest.ensures)
+pub returns-in_err-rest : goal.returns-in_err-rest
+returns-in_err-rest c = MatchResult-from_err c.from_residual.result _ _ c.from_residual.ensures.0 (λ y. arrs-fail c.in-Some.behind.now true c.loop-behind.invariant (arrs-wide c.in-Some.ensures) c.in_err-rest.ensures)
 
-pub returns-in-err-rest-2 : goal.returns-in-err-rest-2
-returns-in-err-rest-2 c = MatchResult-from_err c.from-residual-in-err-rest-2.result _ _ c.from-residual-in-err-rest-2.ensures.0 (λ y. arrs-fail c.in-Some-eat_word.behind.now false c.loop-behind.invariant (arrs_byte c.in-Some-eat_word.ensures) c.in-err-rest-2.ensures)
+pub returns-in_err-rest-2 : goal.returns-in_err-rest-2
+returns-in_err-rest-2 c = MatchResult-from_err c.from_residual-in_err-rest-2.result _ _ c.from_residual-in_err-rest-2.ensures.0 (λ y. arrs-fail c.in-Some-eat_word.behind.now false c.loop-behind.invariant (arrs_byte c.in-Some-eat_word.ensures) c.in_err-rest-2.ensures)
 
 pub returns-in_default-eat_word : goal.returns-in_default-eat_word
 returns-in_default-eat_word c = list_done arrs array_row c.requires.ready.short c.loop-behind.invariant (arrs-end c.loop-behind.rest.now c.in_default.ensures c.in_default-eat_word.ensures)

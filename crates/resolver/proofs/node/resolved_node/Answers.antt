@@ -25,5 +25,5 @@ returns-then-names_value c = λ p f g t so ok hf hi h k.
 pub returns : goal.returns
 returns c = λ p f g t so ok hf hi h k.
     let et = c.at-tag.ensures.is ∙ tag_is t h in
-    let v = c.at_2.result in
-    plain_words_are p f g (omega arith) c.saturating_add-second.ensures c.saturating_add-third.ensures t h k (λ q. c.if-tag-eq9.false (et ∙ q)) (λ q. c.if-tag-eq10.false (et ∙ q)) (sym (ap is_value_name et) ∙ sym c.if-names_value.ensures) c.at_2.ensures.is c.at_2.ensures.small (λ l. c.plain_words.ensures l ∙ ap (λ (n : ℕ). is_plain_tag n ∷ pick (has_value n) v 0 ∷ 0 ∷ []) et)
+    let v = c.at-2.result in
+    plain_words_are p f g (omega arith) c.saturating_add-second.ensures c.saturating_add-third.ensures t h k (λ q. c.if-tag-eq9.false (et ∙ q)) (λ q. c.if-tag-eq10.false (et ∙ q)) (sym (ap is_value_name et) ∙ sym c.if-names_value.ensures) c.at-2.ensures.is c.at-2.ensures.small (λ l. c.plain_words.ensures l ∙ ap (λ (n : ℕ). is_plain_tag n ∷ pick (has_value n) v 0 ∷ 0 ∷ []) et)
