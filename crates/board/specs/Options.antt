@@ -39,7 +39,7 @@ fill_of v = pick (bytes_eq v (codes "ones")) (Some Ones) (seeded (number v))
 
 abbrev pub set : Settings → List ℕ → List ℕ → Setting
 set s name v = pick (bytes_eq name (codes "--at")) (with_at s (number v))
-    (pick (bytes_eq name (codes "--top")) (with-top s (number v))
-    (pick (bytes_eq name (codes "--memory")) (with-memory s (number v))
-    (pick (bytes_eq name (codes "--fill")) (with-fill s (fill-of v))
-    (pick (bytes_eq name (codes "--steps")) (with-steps s (number v)) NoOption))))
+    (pick (bytes_eq name (codes "--top")) (with_top s (number v))
+    (pick (bytes_eq name (codes "--memory")) (with_memory s (number v))
+    (pick (bytes_eq name (codes "--fill")) (with_fill s (fill_of v))
+    (pick (bytes_eq name (codes "--steps")) (with_steps s (number v)) NoOption))))
