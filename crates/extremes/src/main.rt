@@ -156,13 +156,13 @@ fn run(rt: &HostRuntime) -> anyhow::Result<()> {
         return tell_all(rt, work.as_mut_slice());
     };
     let Some(number) = words.next() else {
-        return Err(USAGE.into());
+        return Err(anyhow!(USAGE));
     };
     let times = number.as_str().parse::<u32>()?;
     let text = match option.as_str() {
         "--times" => numbered_text(heap, &NAMES, NAMES.most)?,
         "--uses" => used_text(heap)?,
-        _ => return Err(USAGE.into()),
+        _ => return Err(anyhow!(USAGE)),
     };
     read_again(text.as_slice(), times, work.as_mut_slice());
     Ok(())

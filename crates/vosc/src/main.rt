@@ -40,7 +40,7 @@ fn read_sources(rt: &HostRuntime) -> anyhow::Result<Vec<Source>> {
         }
     }
     if sources.is_empty() {
-        return Err(USAGE.into());
+        return Err(anyhow!(USAGE));
     }
     Ok(sources)
 }

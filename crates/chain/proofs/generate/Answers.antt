@@ -17,7 +17,7 @@ pub returns : goal.returns
 returns c = λ t p reads core e room.
     let long = steps-short t p reads in
     let made = c.steps_row-n.ensures.is (resolve_prog p) e (core-nodes t p reads core) (pile-wide t p _ reads (omega arith)) (bases_low t p _ reads core (omega arith)) (resolved-small t p _ reads e) (omega (arith, ap length (made-right p), long, room)) ∙ made-right p in
-    let steps = front-is _ c.split_at_mut-steps.ensures.value c.split_at_mut-steps.ensures.front-len made in
+    let steps = front-is _ c.split_at_mut-steps.ensures.value c.split_at_mut-steps.ensures.front_len made in
     let head = c.head-words.ensures p e in
     subst (λ i. Assembled (row i) c.args.image.now c.assemble.new.image c.assemble.result) (ap (λ m. image_of (gen_prog p) (code_words (gen_prog p) m)) (ap (λ h. h.1) head))
     (c.assemble.ensures (gen_prog p) (subst (Core (gen_prog p)) (sym (ap (λ h. h.1) head)) (core_programs t p reads core)) steps (ap (λ h. h.2) head ∙ as_many p) (ap (λ h. h.0) head) (omega (arith, ap length steps, long, room)))
