@@ -1,5 +1,5 @@
 use Rattle.std.proofs.Common.{◌+◌, ◌-◌, ◌≤◌}
-use Rattle.vosc.proofs.place.find_place.Given as goal
+use Rattle.builder.proofs.place.find_place.Given as goal
 
 -- there are no more lines than bytes and one
 abbrev pub invariant-loop-i : goal.invariant-loop-i

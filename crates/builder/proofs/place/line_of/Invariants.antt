@@ -1,5 +1,5 @@
 use Rattle.std.proofs.Common.{◌-◌, ◌≤◌, length}
-use Rattle.vosc.proofs.place.line_of.Given as goal
+use Rattle.builder.proofs.place.line_of.Given as goal
 
 -- the line's end lies behind its start, within the text
 abbrev pub invariant-loop-end : goal.invariant-loop-end
