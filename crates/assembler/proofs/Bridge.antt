@@ -1,5 +1,5 @@
 -- The code's view of a step, by tables and 32-bit numbers, is that of the lowering.
-use Rattle.std.proofs.Common.{◌≡◌, ℕ, zero, suc, ◌+◌, ◌-◌, ◌*◌, ◌%◌, ◌<◌, ◌≤◌, min, Bool, true, false, not, ◌&&◌, List, [], ◌∷◌, ◌++◌, length, get_or, sym, refl, ap, ◌∙◌, subst, ap₂, arith}
+use Rattle.std.proofs.Common.{◌≡◌, ℕ, suc, ◌+◌, ◌-◌, ◌*◌, ◌%◌, ◌<◌, ◌≤◌, min, Bool, true, false, not, ◌&&◌, List, [], ◌∷◌, ◌++◌, length, get_or, sym, refl, ap, ◌∙◌, ap₂, arith}
 use mathlib.Core.Bool.{false≢true}
 use native.Mathlib.Decide.{dec_le}
 use lib.ListN.{get_or-eq_default}
@@ -8,10 +8,10 @@ use Rattle.steps.specs.Steps.{Step, s_num, s_copy, s_bin, s_un, s_flag, s_getw, 
 use Rattle.steps.specs.Fits.{StepFits}
 use Rattle.processor.specs.declared.instr.Cond.TheVariants.{Bgeu}
 use Rattle.processor.specs.declared.instr.Imm.TheVariants.{Addi}
-use Rattle.processor.specs.declared.instr.Alu.TheVariants.{Add, Sub}
+use Rattle.processor.specs.declared.instr.Alu.TheVariants.{Sub}
 use Rattle.processor.specs.declared.instr.Instr.{Instr}
 use Rattle.processor.specs.declared.instr.Instr.TheVariants.{Lui, Branch, Sw, OpImm, Op, Ecall}
-use Rattle.lower.specs.Code.{LI, rel, off, l_lw, l_sw, l_num, l_bnz, l_j, l_jal, l_ret, l_upr, l_lwr, l_swr}
+use Rattle.lower.specs.Code.{rel, l_lw, l_sw, l_num, l_bnz, l_j, l_jal, l_ret, l_upr, l_lwr, l_swr}
 use Rattle.lower.specs.Lower.{lower, loads, stores, number, near_floor, low, top, area, plens, lens, live_of, data_size, nought_words, word_no, prologue, entry_in}
 use Rattle.lower.specs.Core.{core_step}
 use Rattle.lower.proofs.Lists.{nth_low}

@@ -1,5 +1,5 @@
 -- The instructions of steps and functions, written one after another.
-use Rattle.std.proofs.Common.{◌≡◌, ℕ, zero, suc, ◌+◌, ◌*◌, ◌<◌, ◌≤◌, min, true, List, [], ◌∷◌, ◌++◌, length, get_or, sym, refl, ap, ◌∙◌, subst, ap₂, append_assoc, append-nil, add-zero, arith, length-append}
+use Rattle.std.proofs.Common.{◌≡◌, ℕ, zero, suc, ◌+◌, ◌*◌, ◌<◌, ◌≤◌, min, true, List, [], ◌∷◌, ◌++◌, length, get_or, sym, refl, ap, ◌∙◌, subst, append_assoc, append-nil, add-zero, arith, length-append}
 use Rattle.language.specs.Words.{all}
 use Rattle.rows.specs.Has.{Has}
 use Rattle.rows.proofs.Having.{has_left, has_right, has_to, has-at}
@@ -8,11 +8,10 @@ use Rattle.steps.specs.Fits.{Each, StepFits, FnFits}
 use Rattle.processor.specs.declared.instr.Instr.{Instr}
 use Rattle.generator.specs.StepRows.{step_words, fn_words}
 use Rattle.lower.specs.Lower.{lower, width, pro_width, fun_width, fun_row, funs_row, prologue, at_of, code_of, entry_in}
-use Rattle.lower.specs.Core.{core_step, CoreFn}
+use Rattle.lower.specs.Core.{core_step}
 use Rattle.lower.proofs.RowPlaces.{width_is, fun_width-is}
 use Rattle.assembler.specs.declared.code.Code.{Code}
 use Rattle.assembler.specs.declared.frame.Frame.{Frame}
-use Rattle.assembler.specs.declared.function.Function.{Function}
 use Rattle.assembler.specs.Emission.{reals, Put}
 use Rattle.assembler.specs.Frames.{bare, routine, entry_at, step_place}
 use Rattle.assembler.specs.Tables.{starts, all_starts, StepsAt, FunctionsAt, Framed, Tabled, Head}

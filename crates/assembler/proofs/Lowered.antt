@@ -1,10 +1,9 @@
 -- The instructions of a step, as they are written.
-use Rattle.std.proofs.Common.{◌≡◌, ℕ, suc, ◌+◌, ◌*◌, List, [], ◌∷◌, ◌++◌, length, sym, refl, ap, ◌∙◌, subst, ap₂, arith}
-use Rattle.steps.specs.Steps.{MFn, MProg, s_call}
+use Rattle.std.proofs.Common.{◌≡◌, ℕ, suc, ◌+◌, List, [], ◌∷◌, ◌++◌, sym, ap, ◌∙◌, ap₂}
 use Rattle.processor.specs.declared.instr.Instr.{Instr}
-use Rattle.processor.specs.declared.instr.Instr.TheVariants.{Lw, Sw, Jal}
+use Rattle.processor.specs.declared.instr.Instr.TheVariants.{Sw, Jal}
 use Rattle.middle.specs.declared.step.Step.{Step}
-use Rattle.middle.specs.declared.step.Step.TheVariants.{Num, Copy, Bin, Un, Flag, GetWord, SetWord, Jump, JumpZero, Call, Out, Ret}
+use Rattle.middle.specs.declared.step.Step.TheVariants.{Call}
 use Rattle.middle.specs.Steps.{seen}
 use Rattle.lower.specs.Code.{LI, rel, off, l_jal, l_sw}
 use Rattle.lower.specs.Lower.{lower, loads}

@@ -1,5 +1,5 @@
 -- Where steps and functions begin, found one after another.
-use Rattle.std.proofs.Common.{◌≡◌, ℕ, zero, suc, ◌+◌, ◌-◌, ◌*◌, ◌<◌, ◌≤◌, min, true, List, [], ◌∷◌, ◌++◌, length, sym, refl, ap, ◌∙◌, subst, ap₂, append_assoc, append-nil, arith, length-append}
+use Rattle.std.proofs.Common.{◌≡◌, ℕ, suc, ◌+◌, ◌*◌, ◌<◌, ◌≤◌, min, true, List, [], ◌∷◌, ◌++◌, length, sym, refl, ap, ◌∙◌, subst, append_assoc, append-nil, arith, length-append}
 use Rattle.language.specs.Words.{all}
 use Rattle.rows.specs.Trees.{list_row}
 use Rattle.rows.specs.Has.{Has}
@@ -8,10 +8,9 @@ use Rattle.rows.specs.declared.row.Row.{Row}
 use Rattle.rows.proofs.Having.{has_left, has_right, has_to, has-next}
 use Rattle.rows.proofs.Writing.{pushed_more, pushed_none}
 use Rattle.steps.specs.Steps.{Step, MFn, MProg}
-use Rattle.steps.specs.Fits.{Each}
 use Rattle.generator.specs.StepRows.{step_words, fn_words}
-use Rattle.lower.specs.Lower.{lower, width, pro_width, fun_width, fun_row, prologue, at_of, code_of, entry_of}
-use Rattle.lower.specs.Core.{core_step, CoreFn}
+use Rattle.lower.specs.Lower.{lower, width, pro_width, fun_width, prologue, at_of, code_of, entry_of}
+use Rattle.lower.specs.Core.{core_step}
 use Rattle.lower.proofs.RowPlaces.{width_is, code-width}
 use Rattle.middle.proofs.Back.{long}
 use Rattle.assembler.specs.declared.function.Function.{Function}

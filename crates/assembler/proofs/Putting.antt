@@ -1,11 +1,11 @@
 -- Laws of writing instructions.
-use Rattle.std.proofs.Common.{◌≡◌, ℕ, zero, suc, ◌+◌, ◌≤◌, List, [], ◌∷◌, ◌++◌, length, take, sym, refl, ap, ◌∙◌, subst, ap₂, append_assoc, append-nil, arith, length-append}
+use Rattle.std.proofs.Common.{◌≡◌, ℕ, suc, ◌+◌, List, [], ◌∷◌, ◌++◌, length, take, sym, refl, ap, ◌∙◌, subst, ap₂, append_assoc, append-nil, arith, length-append}
 use Rattle.processor.specs.declared.instr.Instr.{Instr}
 use Rattle.processor.specs.Instr.{encode}
 use Rattle.lower.specs.Code.{LI, to_real}
 use Rattle.lower.specs.Lower.{words_of}
 use Rattle.assembler.specs.declared.code.Code.{Code}
-use Rattle.assembler.specs.Emission.{reals, encoded, Grown, Put}
+use Rattle.assembler.specs.Emission.{reals, encoded, Put}
 
 pub encoded-length : (is : List Instr) → length (encoded is) ≡ length is
 encoded-length [] = refl

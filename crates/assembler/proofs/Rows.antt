@@ -1,13 +1,10 @@
 -- The instructions of some rows: words passed and stored one after another, and rows that do not depend on their place.
-use Rattle.std.proofs.Common.{◌≡◌, ℕ, zero, suc, ◌+◌, ◌*◌, ◌%◌, ◌≤◌, List, [], ◌∷◌, ◌++◌, length, sym, refl, ap, ◌∙◌, subst, ap₂, arith, length-append}
+use Rattle.std.proofs.Common.{◌≡◌, ℕ, zero, suc, ◌+◌, ◌*◌, ◌%◌, List, [], ◌∷◌, ◌++◌, length, sym, refl, ap, ◌∙◌, ap₂, arith}
 use Rattle.language.specs.Words.{all}
-use Rattle.processor.specs.declared.instr.Cond.TheVariants.{Bne, Bgeu}
 use Rattle.processor.specs.declared.instr.Imm.TheVariants.{Addi}
-use Rattle.processor.specs.declared.instr.Alu.TheVariants.{Add, Sub}
-use Rattle.processor.specs.declared.instr.Prod.TheVariants.{Mul, Divu, Remu}
 use Rattle.processor.specs.declared.instr.Instr.{Instr}
-use Rattle.processor.specs.declared.instr.Instr.TheVariants.{Lui, Jal, Jalr, Branch, Lw, Sw, OpImm, Op, OpProd, Ecall}
-use Rattle.lower.specs.Code.{LI, rel, off, l_lw, l_sw, l_num, l_sp, l_room, l_bge, l_ecall, l_downr, to_real}
+use Rattle.processor.specs.declared.instr.Instr.TheVariants.{Lui, Lw, Sw, OpImm}
+use Rattle.lower.specs.Code.{off, l_sw, l_num, l_sp, l_room, l_bge, l_ecall, l_downr}
 use Rattle.lower.specs.Lower.{loads, stores, top, low, number, prologue}
 use Rattle.assembler.specs.Emission.{reals}
 use Rattle.assembler.proofs.Putting.{reals-append}

@@ -1,14 +1,13 @@
 -- The tables and the code as lists.
-use Rattle.std.proofs.Common.{◌≡◌, ℕ, zero, suc, ◌+◌, ◌-◌, ◌*◌, ◌<◌, ◌≤◌, not, List, [], ◌∷◌, ◌++◌, length, get_or, take, drop, sym, refl, ap, ◌∙◌, subst, ap₂, append_assoc, append-nil, add-zero, arith, length-append, length-drop, take-append-drop, length-take}
+use Rattle.std.proofs.Common.{◌≡◌, ℕ, zero, suc, ◌+◌, ◌-◌, ◌<◌, ◌≤◌, not, List, [], ◌∷◌, ◌++◌, length, get_or, take, drop, sym, refl, ap, ◌∙◌, subst, ap₂, append-nil, add-zero, arith, length-append, length-drop, take-append-drop, length-take}
 use borrow.Rule.Slice.PartMut.{put_mid, post_of}
 use Rattle.std.proofs.lemmas.List.{take_all, drop-drop}
-use Rattle.language.specs.Words.{all}
 use Rattle.rows.specs.Trees.{list_row}
 use Rattle.rows.specs.Has.{Has}
 use Rattle.rows.specs.Row.{Pushed, Wrote}
 use Rattle.rows.specs.declared.row.Row.{Row}
 use Rattle.rows.proofs.Having.{has-at}
-use Rattle.steps.specs.Steps.{Step, MFn, MProg}
+use Rattle.steps.specs.Steps.{MFn, MProg}
 use Rattle.steps.specs.Fits.{Each, FnFits}
 use Rattle.processor.specs.declared.instr.Instr.{Instr}
 use Rattle.processor.specs.declared.instr.Instr.TheVariants.{Jal}

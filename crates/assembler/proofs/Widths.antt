@@ -1,8 +1,8 @@
 -- How long the instructions of a call and of a function's beginning are.
-use Rattle.std.proofs.Common.{◌≡◌, ℕ, suc, ◌+◌, ◌≤◌, Bool, true, false, ◌&&◌, T, leb, List, [], ◌∷◌, ◌++◌, length, sym, refl, ap, ◌∙◌, arith, leb→le, length-append}
+use Rattle.std.proofs.Common.{◌≡◌, ℕ, ◌+◌, ◌≤◌, Bool, true, false, ◌&&◌, T, leb, [], ◌∷◌, ap, ◌∙◌, arith, leb→le, length-append}
 use mathlib.Core.Bool.{false≢true}
 use Rattle.steps.specs.Steps.{MFn, MProg, s_call}
-use Rattle.lower.specs.Code.{l_jal, l_sw, l_num}
+use Rattle.lower.specs.Code.{l_num}
 use Rattle.lower.specs.Lower.{loads, stores, width, pro_width}
 use Rattle.lower.specs.Core.{core_step}
 use Rattle.lower.proofs.CodeSize.{stores-long}

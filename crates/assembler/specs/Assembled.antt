@@ -1,5 +1,5 @@
 -- What is asked of the words that are lent, and what stands in the image then.
-use Rattle.std.specs.Prelude.{◌≡◌, ℕ, ◌+◌, ◌<◌, ◌≤◌, List, ◌∷◌, ◌++◌, length, drop, MatchOption}
+use Rattle.std.specs.Prelude.{◌≡◌, ℕ, ◌<◌, ◌≤◌, List, ◌∷◌, ◌++◌, length, drop, MatchOption}
 use Rattle.std.specs.declared.option.Option as std
 use Rattle.rows.specs.Trees.{list_row}
 use Rattle.rows.specs.Has.{Has}

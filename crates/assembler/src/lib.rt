@@ -1,4 +1,6 @@
 // From the steps of all functions to the words of an image: sizes first, then instructions.
+#![tactic(auto)]
+
 ghost use Rattle.std.specs.Prelude.{◌≡◌, ℕ, ◌+◌, ◌≤◌, length};
 ghost use Rattle.rows.specs.Trees.{list_row};
 ghost use Rattle.image.specs.Image.{row};
@@ -15,17 +17,17 @@ mod extent;
 mod frame;
 mod function;
 mod functions;
-mod image;
+mod imaging;
 mod look;
 mod measure;
 mod operator;
 mod place;
 mod program;
 mod sizes;
-mod steps;
+mod stepping;
 
 use extent::Extent;
-use image::{measure, write_image};
+use imaging::{measure, write_image};
 use program::{Program, Tables};
 
 // The image of a program's steps, if there is room for it: how many words it has. `steps` is the row of its functions but for function 0, `count`

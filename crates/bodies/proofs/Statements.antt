@@ -1,12 +1,12 @@
 -- The steps of the code that reads statements, against the model parser.
 use Rattle.std.proofs.Common.{◌≡◌, ℕ, ◌+◌, ◌-◌, ◌*◌, ◌≤◌, Bool, true, false, List, [], ◌∷◌, ◌++◌, length, Ok, Err, Result, sym, refl, ap, ◌∙◌, subst, append_assoc, append-nil, arith, Bor}
-use mathlib.Core.Option.{some, none}
+use mathlib.Core.Option.{none}
 use Rattle.rows.specs.declared.row.Row.{Row}
 use Rattle.pieces.specs.declared.refused.Refused.{Refused}
 use Rattle.language.specs.Syntax.{pick, Name, same, Expr, var, idx, Stmt, set1, store1, ex1, out1, if1, while1, ret1, break1, next1, Block, end, seq1}
 use Rattle.grammar.specs.Text.{pieces, gap, is_name, t_lb, t_rb, t_lc, t_rc, t_semi, t_gets, k_else}
 use Rattle.grammar.specs.Parse.{p_name, Res, fail, got, bind, eat, climb, reader}
-use Rattle.grammar.specs.ParseAll.{expr, ex_semi, Lead, l_if, l_while, l_other, store_or, name_st, block, else_of, st_by, stmt, body_step, body}
+use Rattle.grammar.specs.ParseAll.{expr, ex_semi, l_if, l_while, l_other, store_or, name_st, block, else_of, st_by, stmt, body_step, body}
 use Rattle.pieces.specs.Seen.{ate, Ate, AteName, no_piece}
 use Rattle.rows.specs.Row.{Wrote}
 use Rattle.rows.specs.Has.{named}

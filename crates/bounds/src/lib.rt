@@ -1,4 +1,6 @@
 // What code may take for granted of a text's program. The theorems stand on the contracts below; each function only says that its theorem is proved.
+#![tactic(auto)]
+
 ghost use Rattle.bounds.specs.Bounds.{PeakNeeds, MadeRight, ResolvedShort, StepsShort, PileFits, CoreNodes};
 ghost use Rattle.lower.specs.Core.{CorePrograms};
 

@@ -1,5 +1,7 @@
 // vosc: builds the program that the files named are, and writes its image; or says where and why they are none. What is answered
 // and what the image holds is worked out in the crates below; here is only what reads, writes and prints.
+#![tactic(auto)]
+
 use anyhow::anyhow;
 use chain::build;
 use lower::Built;

@@ -1,19 +1,17 @@
 -- What the layers of a build give one another.
-use Rattle.std.proofs.Common.{◌≡◌, ℕ, suc, ◌+◌, ◌*◌, ◌<◌, ◌≤◌, Bool, true, false, leb, List, [], ◌∷◌, ◌++◌, length, take, drop, Some, None, sym, refl, ap, ◌∙◌, subst, arith, leb→le}
+use Rattle.std.proofs.Common.{◌≡◌, ℕ, suc, ◌+◌, ◌<◌, ◌≤◌, leb, List, [], ◌∷◌, ◌++◌, length, take, sym, refl, ap, ◌∙◌, arith, leb→le}
 use mathlib.Core.Option.{Option, some, none}
-use Rattle.std.specs.declared.option.Option as std
 use Rattle.language.specs.Syntax.{opt, Fn, Prog, stage}
 use Rattle.language.specs.Meaning.{Top, as_fn, all_tops}
 use Rattle.std.proofs.lemmas.List.{take_at}
-use Rattle.grammar.specs.Text.{Reads, pieces, gap, flat, calm}
+use Rattle.grammar.specs.Text.{Reads}
 use Rattle.grammar.proofs.PieceKinds.{and_0}
-use Rattle.rows.specs.Trees.{list_row}
 use Rattle.steps.specs.Generate.{slots_of, scope, sorted, gen_fn, gen_prog}
 use Rattle.steps.specs.Fits.{Each}
 use Rattle.lower.specs.Lower.{others}
 use Rattle.lower.specs.Core.{CoreFn}
 use Rattle.generator.specs.ResolvedRows.{Routine, resolved_words, resolve_fn, resolve_prog}
-use Rattle.generator.specs.StepRows.{base_of, fn_words, made}
+use Rattle.generator.specs.StepRows.{base_of}
 use Rattle.generator.specs.Peak.{peak}
 use Rattle.bounds.proofs.Made.{pile-fits, places_are, each-routine}
 use Rattle.bounds.proofs.Peak.{peak_needs}

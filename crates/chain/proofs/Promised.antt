@@ -1,5 +1,5 @@
 -- What the layers answer is what the definition `built` gives, which keeps the promise of `build`.
-use Rattle.std.proofs.Common.{◌≡◌, ℕ, ◌+◌, ◌*◌, ◌<◌, ◌≤◌, Bool, true, false, T, ltb, leb, List, ◌++◌, length, drop, sym, refl, ap, ◌∙◌, subst, arith, le-ltb, lt-ltb, le-leb}
+use Rattle.std.proofs.Common.{◌≡◌, ℕ, ◌+◌, ◌*◌, ◌<◌, ◌≤◌, Bool, List, ◌++◌, length, drop, sym, ap, ◌∙◌, subst, arith, le-ltb, lt-ltb, le-leb}
 use mathlib.Core.Option.{some, none}
 use borrow.Author.Tests.{lt-leb}
 use Rattle.language.specs.Syntax.{pick, Prog, stage}
@@ -9,7 +9,7 @@ use Rattle.lower.specs.declared.Built.{Built}
 use Rattle.lower.specs.declared.Built.TheVariants.{Done, ImageFull, NotYet, NoProgram, Few}
 use Rattle.lower.specs.Lower.{compile}
 use Rattle.lower.specs.Promise.{BuiltPost}
-use Rattle.lower.specs.Build.{Outcome, refused, written, of-program, of_text, built}
+use Rattle.lower.specs.Build.{Outcome, refused, written, of_text, built}
 use Rattle.lower.proofs.Builds.{builds_right}
 
 by-built : {t o o' : List ℕ} {w : ℕ} {r : Built} → built t w o ≡ record { answer = r; image = o' } → BuiltPost t w o o' r

@@ -1,4 +1,6 @@
 // The compiler: from a text to an image. What is promised of `build` stands in lower/specs/Promise; it reads as the list of layers.
+#![tactic(auto)]
+
 ghost use Rattle.std.specs.Prelude.{◌≡◌, ℕ, ◌+◌, ◌*◌, ◌<◌, ◌≤◌, List, [], length, take};
 ghost use Rattle.language.specs.Syntax.{Prog, stage};
 ghost use Rattle.grammar.specs.Text.{Reads};

@@ -1,5 +1,7 @@
 // extremes: makes texts at the limits of the language, and says what `read` answers of each; of one that is no program, where
 // and why.
+#![tactic(auto)]
+
 use anyhow::anyhow;
 use reader::{Reading, read};
 use reports::explain;

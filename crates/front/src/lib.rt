@@ -1,4 +1,6 @@
 // The reading half of the compiler: a text of any bytes is answered exactly as the definitions answer it.
+#![tactic(auto)]
+
 ghost use Rattle.std.specs.Prelude.{◌≡◌, ◌+◌, ◌*◌, ◌<◌, ◌≤◌, ◌&&◌, length, nat_lt};
 ghost use Rattle.language.specs.Syntax.{Prog};
 ghost use Rattle.language.specs.Checks.{ok};

@@ -1,17 +1,17 @@
 -- The nodes of an expression make its steps.
-use mathlib.Core.Path.{◌≡◌, refl, sym, ap, subst, ◌∙◌}
+use mathlib.Core.Path.{◌≡◌, refl, sym, ap, ◌∙◌}
 use mathlib.Core.Bool.{Bool, true, false}
 use mathlib.Core.List.{List, [], ◌∷◌, ◌++◌, append-nil, append_assoc}
 use mathlib.Core.Option.{Option, some, none}
 use Prim.Native.Nat.{ℕ, zero, suc, ◌+◌}
 use native.Mathlib.Omega.{arith}
 use lib.ListN.{length, length-append}
-use Rattle.language.specs.Syntax.{pick, opt, Name, Expr, num, var, bin, un, and1, or1, idx, len, call, by_table, input, Exprs, no, and_then}
+use Rattle.language.specs.Syntax.{opt, Name, Expr, num, var, bin, un, and1, or1, idx, len, call, by_table, input, Exprs, no, and_then}
 use Rattle.language.specs.Meaning.{on_some, as_word}
-use Rattle.rows.specs.Nodes.{Node, n_num, n_var, n_bin, n_and, n_or, n_join, n_un, n_idx, n_len, n_call, n_by, n_in, nodes_e, nodes_es, count}
-use Rattle.steps.specs.Steps.{Opnd, Step, s_num, s_copy, s_bin, s_un, s_flag, s_getw, s_jump, s_jz, s_call, s_table, s_in, s_idx, s_len}
+use Rattle.rows.specs.Nodes.{Node, n_bin, n_and, n_or, n_join, n_un, n_idx, n_call, n_by, nodes_e, nodes_es, count}
+use Rattle.steps.specs.Steps.{Opnd, Step, s_num, s_copy, s_flag, s_getw, s_jump, s_jz}
 use Rattle.steps.specs.Generate.{Scope, Ref, r_word, r_arr, find, gen_arr, the_arr, arr_arg, own_at, at_place, unless, opnds, count as words, size_e, size_es, size_v, copies, gen_var, gen_e, gen_es, gen_v}
-use Rattle.steps.proofs.Expressions.{len-e, len_es}
+use Rattle.steps.proofs.Expressions.{len-e}
 use Rattle.generator.specs.Resolved.{Resolved, v_and, v_or, v_join, resolve_nodes, read_name, read_top, read_ref, pass_name}
 use Rattle.generator.specs.Emit.{Entry, e_temp, e_own, e_arr, raise, above, place_of, under, top, below, words_in, arrays_in, arrays_of, target_at, aim_at, Marks, marks, settled, settle, emit, run}
 use Rattle.generator.proofs.Waiting.{target-mid, aim-mid, marks-eq, entry_of, above-one, place-one}

@@ -1,22 +1,21 @@
 -- The nodes of statements make their steps, and those of a body its steps.
-use mathlib.Core.Path.{◌≡◌, refl, sym, ap, subst, ◌∙◌}
-use mathlib.Core.Bool.{Bool, true, false}
+use mathlib.Core.Path.{◌≡◌, refl, sym, ap, ◌∙◌}
+use mathlib.Core.Bool.{false}
 use mathlib.Core.List.{List, [], ◌∷◌, ◌++◌, append-nil, append_assoc}
 use mathlib.Core.Option.{Option, some, none}
-use Prim.Native.Nat.{ℕ, zero, suc, ◌+◌, ◌-◌}
+use Prim.Native.Nat.{ℕ, suc, ◌+◌, ◌-◌}
 use native.Mathlib.Omega.{arith}
 use lib.ListN.{length, length-append}
 use Rattle.language.specs.Syntax.{opt, Name, Expr, Stmt, set1, store1, ex1, out1, if1, while1, ret1, break1, next1, Block, end, seq1}
 use Rattle.language.specs.Meaning.{on_some, as_word}
-use Rattle.rows.specs.Nodes.{Node, n_set, n_store, n_ex, n_out, n_if, n_else, n_fi, n_loop, n_while, n_again, n_ret, n_break, n_next, n_end, nodes_e, nodes_s, nodes_bs, nodes_b}
-use Rattle.steps.specs.Steps.{Step, s_num, s_copy, s_setw, s_jump, s_jz, s_put, s_out, s_ret}
-use Rattle.steps.specs.Generate.{Scope, Ref, r_word, r_arr, find, the_arr, wide_of, own_at, at_place, size_e, size_v, size_s, size_b, sets_to, gen_set, gen_e, gen_v, gen_s, gen_b, gen_body}
-use Rattle.steps.proofs.Expressions.{len-e}
+use Rattle.rows.specs.Nodes.{Node, n_set, n_store, n_ex, n_out, n_if, n_else, n_fi, n_while, n_again, n_ret, n_end, nodes_e, nodes_s, nodes_bs}
+use Rattle.steps.specs.Steps.{Step, s_num, s_copy, s_setw, s_jump, s_jz}
+use Rattle.steps.specs.Generate.{Scope, Ref, r_word, r_arr, find, own_at, size_e, size_s, size_b, sets_to, gen_e, gen_v, gen_s, gen_b}
 use Rattle.steps.proofs.Statements.{len_s, len_b}
-use Rattle.generator.specs.Resolved.{Resolved, resolve_nodes, set_name, set_top, set_ref}
-use Rattle.generator.specs.Emit.{Entry, e_temp, above, place_of, target_at, aim_at, Marks, marks, settle, tests, stays, uses, forgets, emit, run, EmitsBody}
+use Rattle.generator.specs.Resolved.{set_top, set_ref}
+use Rattle.generator.specs.Emit.{target_at, aim_at, marks, tests, stays, uses, forgets, emit, EmitsBody}
 use Rattle.generator.proofs.Waiting.{target-mid, aim-mid, marks-eq, entry_of, above-one, place-one}
-use Rattle.generator.proofs.EmitExpr.{runs, AfterV, AfterE, settle_v, long_v, long_e, run_v}
+use Rattle.generator.proofs.EmitExpr.{runs, AfterV, settle_v, long_v, long_e, run_v}
 
 module _ (Γ : Scope) (b : ℕ) where
   abbrev GoalS : Stmt → Type 0

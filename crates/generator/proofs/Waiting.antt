@@ -1,13 +1,13 @@
 -- Jumps that wait in the middle of the steps, the pile's places, and states that are the same.
-use mathlib.Core.Path.{◌≡◌, refl, sym, ap, ◌∙◌}
-use mathlib.Core.List.{List, [], ◌∷◌, ◌++◌, append-nil, append_assoc}
+use mathlib.Core.Path.{◌≡◌, refl, ap}
+use mathlib.Core.List.{List, [], ◌∷◌, ◌++◌}
 use mathlib.Core.Option.{Option, some, none}
-use Prim.Native.Nat.{ℕ, zero, suc, ◌+◌}
+use Prim.Native.Nat.{ℕ, zero, suc}
 use native.Mathlib.Omega.{arith}
-use lib.ListN.{length, length-append}
+use lib.ListN.{length}
 use Rattle.language.specs.Syntax.{opt}
 use Rattle.steps.specs.Steps.{Step}
-use Rattle.generator.specs.Emit.{Entry, e_temp, e_own, e_arr, above, place_of, target_of, aim, target_at, aim_at, Marks, marks}
+use Rattle.generator.specs.Emit.{Entry, e_temp, e_own, above, place_of, target_of, aim, target_at, aim_at, marks}
 
 pub target-mid : (r : List Step) (s : Step) (xs : List Step) (i : ℕ) → i ≡ length r → target_at (r ++ (s ∷ xs)) i ≡ target_of s
 target-mid [] s xs zero e = refl

@@ -1,6 +1,6 @@
 -- What each resolved node makes of the steps so far. One pass from left to right: values wait on a pile; a jump forward waits in a chain, its
 -- target field holding the number of the jump that waited before it.
-use Rattle.std.specs.Prelude.{◌≡◌, Bool, true, false, List, [], ◌∷◌, ◌++◌, ℕ, zero, suc, ◌+◌, ◌-◌, length}
+use Rattle.std.specs.Prelude.{◌≡◌, List, [], ◌∷◌, ◌++◌, ℕ, zero, suc, ◌+◌, ◌-◌, length}
 use Rattle.language.specs.Syntax.{Block}
 use Rattle.rows.specs.Nodes.{nodes_b}
 use Rattle.steps.specs.Steps.{Opnd, Step, s_num, s_copy, s_bin, s_un, s_flag, s_getw, s_setw, s_jump, s_jz, s_call, s_table, s_out, s_ret, s_in, s_idx, s_put, s_len}

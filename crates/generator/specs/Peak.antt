@@ -1,5 +1,5 @@
 -- How many places a function has: the highest that a value waits in while its nodes are gone through.
-use Rattle.std.specs.Prelude.{List, [], ◌∷◌, ℕ, suc, ◌+◌, max}
+use Rattle.std.specs.Prelude.{List, [], ◌∷◌, ℕ, max}
 use Rattle.generator.specs.Resolved.{Resolved, v_num, v_own, v_copy, v_get, v_arr, v_bin, v_un, v_and, v_or, v_join, v_idx, v_len, v_call, v_by, v_in, v_set, v_setw, v_clear, v_store, v_ex, v_out, v_if, v_else, v_fi, v_loop, v_while, v_again, v_ret, v_break, v_next, v_end}
 use Rattle.generator.specs.Emit.{Entry, e_temp, e_own, e_arr, above, under, below}
 

@@ -1,8 +1,8 @@
 -- A body's nodes with each name replaced by what it stands for: a place of the function, a word or an array at the top, a function, a table.
 -- Rests on the scopes of the generator (steps/specs/Generate), so that it is the generator's own look-up.
-use Rattle.std.specs.Prelude.{Bool, true, false, List, [], ◌∷◌, ℕ}
+use Rattle.std.specs.Prelude.{Bool, List, [], ◌∷◌, ℕ}
 use Rattle.std.proofs.Math.Option.{Option, some, none}
-use Rattle.language.specs.Syntax.{pick, opt, Name}
+use Rattle.language.specs.Syntax.{opt, Name}
 use Rattle.language.specs.Meaning.{on_some, as_word}
 use Rattle.rows.specs.Nodes.{Node, n_num, n_var, n_bin, n_and, n_or, n_join, n_un, n_idx, n_len, n_call, n_by, n_in, n_set, n_store, n_ex, n_out, n_if, n_else, n_fi, n_loop, n_while, n_again, n_ret, n_break, n_next, n_end, n_arg}
 use Rattle.steps.specs.Steps.{Opnd}

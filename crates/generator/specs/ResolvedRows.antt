@@ -1,5 +1,5 @@
 -- A program with its names resolved, and its row of words. A node has three words, so that the generator goes over nodes by their number.
-use Rattle.std.specs.Prelude.{Bool, List, [], ◌∷◌, ◌++◌, ℕ, ◌+◌, ◌*◌, length}
+use Rattle.std.specs.Prelude.{List, [], ◌∷◌, ◌++◌, ℕ, ◌+◌, ◌*◌, length}
 use Rattle.language.specs.Syntax.{Name, Fn, Prog}
 use Rattle.language.specs.Words.{bit}
 use Rattle.language.specs.Meaning.{all_tops, all_words, as_fn, as_table, first_file, w_main}

@@ -1,11 +1,10 @@
 -- Steps as rows of words: five words a step, so that a step is found by its number; the target of a jump is the third.
-use Rattle.std.specs.Prelude.{Bool, true, false, List, [], ◌∷◌, ◌++◌, ℕ, ◌+◌, ◌*◌, length}
+use Rattle.std.specs.Prelude.{List, [], ◌∷◌, ℕ, ◌+◌, ◌*◌, length}
 use Rattle.language.specs.Words.{bit}
 use Rattle.rows.specs.Trees.{list_row}
 use Rattle.steps.specs.Steps.{Step, s_num, s_copy, s_bin, s_un, s_flag, s_getw, s_setw, s_jump, s_jz, s_call, s_table, s_out, s_ret, s_in, s_idx, s_put, s_len, MFn}
-use Rattle.generator.specs.Resolved.{Resolved}
 use Rattle.generator.specs.ResolvedRows.{Routine, number_of, side_of}
-use Rattle.generator.specs.Emit.{Marks, marks, run}
+use Rattle.generator.specs.Emit.{marks, run}
 use Rattle.generator.specs.Peak.{peak}
 
 -- the arrays of a call are not in it

@@ -8,7 +8,7 @@ use lib.Dec.{T}
 use Rattle.language.specs.Syntax.{Name, same, k_word, Param, Arr, Block, Item, i_data, i_table, i_fn, i_use, Prog}
 use Rattle.grammar.specs.Text.{k_file, k_var, k_array, k_bytes, t_lp, t_rp, t_lb, t_rb, t_lc, t_rc, t_comma, t_semi, is_name, IsNumber, AreNames, one_n, more_n, AreNumbers, one_v, more_v, IsParam, word_p, wide_p, byte_p, AreParams, none_ps, one_ps, more_ps, AreVars, no_vars, some_vars, AreArrays, no_arrs, wide_a, byte_a, IsBlock, IsItem, word_i, wide_i, byte_i, data_i, text_i, table_i, use_i, fn_i, AreItems, no_items, more_items, AreFiles, no_files, more_files}
 use Rattle.grammar.specs.Parse.{got, bind, eat, num_of, look}
-use Rattle.grammar.specs.ParseAll.{again, body, names_in, nums_in, par_kind, par, pars_more, pars_step, pars_of, vars_in, size, arr, arrs_as, arrs_step, head_of, fn_it, item, items_step, parse, lead}
+use Rattle.grammar.specs.ParseAll.{again, body, names_in, nums_in, par_kind, par, pars_more, pars_step, pars_of, vars_in, arr, arrs_as, arrs_step, head_of, fn_it, item, items_step, parse, lead}
 use Rattle.grammar.proofs.PieceKinds.{T_of, true_of, same-eq}
 use Rattle.grammar.proofs.ExprComplete.{fail-got}
 use Rattle.grammar.proofs.Equations.{pars-is, arrs-is, items-is, files-is}

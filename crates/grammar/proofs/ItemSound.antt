@@ -8,7 +8,7 @@ use lib.Dec.{T, eqb, eqb→eq}
 use Rattle.language.specs.Syntax.{pick, Name, same, Kind, Param, Arr, Item, Prog}
 use Rattle.grammar.specs.Text.{k_file, k_use, k_var, k_array, k_bytes, k_table, k_fn, t_lp, t_rp, t_lb, t_rb, t_lc, t_rc, t_comma, t_semi, t_colon, t_gets, is_name, IsNumber, AreNames, one_n, more_n, AreNumbers, one_v, more_v, IsParam, word_p, wide_p, byte_p, AreParams, none_ps, one_ps, more_ps, AreVars, no_vars, some_vars, AreArrays, no_arrs, wide_a, byte_a, IsItem, word_i, wide_i, byte_i, data_i, text_i, table_i, use_i, fn_i, AreItems, no_items, more_items, AreFiles, no_files, more_files}
 use Rattle.grammar.specs.Parse.{Res, num_of}
-use Rattle.grammar.specs.ParseAll.{names_in, nums_in, par_in, par_kind, par, pars_more, pars_step, pars_of, vars_in, size, arr, arrs_as, arrs_step, Head, h_var, h_array, h_bytes, h_table, h_use, h_fn, h_none, heads, head_of, in_quotes, text_to, array_it, bytes_it, fn_it, it_by, items_step, files_step, parse}
+use Rattle.grammar.specs.ParseAll.{names_in, nums_in, par_in, par_kind, par, pars_more, pars_step, pars_of, vars_in, arr, arrs_as, arrs_step, Head, h_var, h_array, h_bytes, h_table, h_use, h_fn, h_none, heads, head_of, in_quotes, text_to, array_it, bytes_it, fn_it, it_by, items_step, files_step, parse}
 use Rattle.grammar.proofs.PieceKinds.{same-eq, T_of, find-means}
 use Rattle.grammar.proofs.ExprSound.{Post, none_p, got_p, post-bind, post-pick, post-eat, post-eat_name, closed}
 use Rattle.grammar.proofs.ExprFuel.{weaken}

@@ -1,5 +1,7 @@
 // Texts and programs: from bytes to pieces to trees, the model parser, and the bounds that only the grammar gives. The theorems stand on
 // the contracts below; each function only says that its theorem is proved.
+#![tactic(auto)]
+
 ghost use Rattle.grammar.specs.Laws.{OneProgram, NeverWrong, Further};
 ghost use Rattle.grammar.specs.Reading.{ReadingSound, ReadingComplete, ReadingNone};
 ghost use Rattle.grammar.specs.Equations.{Equations};

@@ -1,4 +1,6 @@
 // The loader: takes an image's row apart, puts the image into memory, and says how the board is to start it.
+#![tactic(auto)]
+
 ghost use Rattle.std.specs.Prelude.{◌≡◌, ◌%◌};
 ghost use Rattle.image.specs.Place.{PlacedSays, StartSays, OneImage, OneAnswer, PlacedReady};
 

@@ -5,7 +5,7 @@ use mathlib.Core.List.{List, [], ◌∷◌}
 use mathlib.Core.Option.{some}
 use Prim.Native.Nat.{ℕ, ◌<◌}
 use Rattle.language.specs.Syntax.{pick, k_word, Prog}
-use Rattle.language.specs.Meaning.{Cells, State, Value, word, array, Result, val}
+use Rattle.language.specs.Meaning.{Cells, State, Value, word, array, Result}
 use Rattle.language.specs.Laws.{Each, ValueWord, WordsSmall, WordsStay}
 use Rattle.language.specs.Words.{all}
 use Rattle.language.specs.Observe.{state_of}

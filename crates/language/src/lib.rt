@@ -1,5 +1,7 @@
 // The language: trees, words of 32 bits, what a program means, what makes files a program. The laws of the meaning stand on the
 // contracts below; each function only says that its law is proved.
+#![tactic(auto)]
+
 ghost use Rattle.language.specs.Laws.{NeverWrong, Further, OnlyGrows, WordsStay};
 ghost use Rattle.language.specs.Samples.{Worked};
 

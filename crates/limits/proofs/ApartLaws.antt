@@ -1,5 +1,5 @@
 -- Names that differ, item by item.
-use Rattle.std.proofs.Common.{◌≡◌, ℕ, Bool, true, false, not, ◌&&◌, ◌||◌, List, [], ◌∷◌, ◌++◌, get_or, sym, refl, ap, ◌∙◌}
+use Rattle.std.proofs.Common.{◌≡◌, ℕ, Bool, not, ◌&&◌, ◌||◌, List, [], ◌∷◌, ◌++◌, get_or, sym, refl, ap, ◌∙◌}
 use Rattle.language.specs.Syntax.{Name, same, listed, Item, i_word, i_arr, i_data, i_table, i_fn, i_use}
 use Rattle.language.specs.Checks.{once, names_in}
 use Rattle.rows.specs.Has.{Has}

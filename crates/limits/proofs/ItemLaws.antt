@@ -1,5 +1,5 @@
 -- The limits of items, part by part.
-use Rattle.std.proofs.Common.{◌≡◌, ℕ, Bool, true, false, ◌&&◌, leb, List, [], ◌∷◌, ◌++◌, get_or, refl, ap, ◌∙◌, ap₂}
+use Rattle.std.proofs.Common.{◌≡◌, ℕ, Bool, true, ◌&&◌, leb, List, [], ◌∷◌, ◌++◌, get_or, refl, ap, ◌∙◌, ap₂}
 use Rattle.language.specs.Syntax.{Name, Param, Arr, Fn, Item, i_word, i_arr, i_data, i_table, i_fn, i_use}
 use Rattle.language.specs.Checks.{sizes, param_names, arr_names}
 use Rattle.rows.specs.Has.{Has}

@@ -1,4 +1,6 @@
 // What can be told of a program's row without looking names up: its stage, its limits, that its names differ.
+#![tactic(auto)]
+
 mod differ;
 mod head;
 mod items;

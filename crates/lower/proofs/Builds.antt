@@ -1,10 +1,9 @@
 -- A build that gives what specs/Build says keeps the promise of the call: the layers in a row.
 use mathlib.Core.Path.{◌≡◌, refl, sym, ap, subst}
 use mathlib.Core.Bool.{Bool, true, false, not}
-use mathlib.Core.Logic.{◌↔◌}
 use mathlib.Core.List.{List, [], ◌∷◌, ◌++◌}
 use mathlib.Core.Option.{Option, some, none}
-use Prim.Native.Nat.{ℕ, ◌+◌, ◌*◌, ◌≤◌, ◌<◌}
+use Prim.Native.Nat.{ℕ, ◌+◌, ◌*◌, ◌≤◌}
 use native.Mathlib.Omega.{arith}
 use lib.ListN.{length, take, drop}
 use lib.Dec.{T, ltb, leb, leb→le, ltb→lt, lt→ltb, nleb→lt}
@@ -20,7 +19,7 @@ use Rattle.lower.specs.declared.Built.{Built}
 use Rattle.lower.specs.declared.Built.TheVariants.{Done, ImageFull, NotYet, NoProgram, Few}
 use Rattle.lower.specs.Lower.{compile}
 use Rattle.lower.specs.Promise.{landed, RunsRight, BuiltSays, BuiltPost, Parts}
-use Rattle.lower.specs.Build.{Outcome, refused, written, of-program, of_text, built, BuildsRight}
+use Rattle.lower.specs.Build.{Outcome, refused, written, of_text, BuildsRight}
 use Rattle.lower.proofs.Correct.{compiled_right, compiled_sound, compiled_fits}
 
 pub parts : Parts

@@ -6,13 +6,13 @@ use mathlib.Core.Option.{Option, some, none}
 use Prim.Native.Nat.{ℕ, zero, suc, ◌+◌, ◌≤◌}
 use native.Mathlib.Omega.{arith}
 use lib.ListN.{length, length-append}
-use Rattle.language.specs.Syntax.{opt, Name, Expr, num, var, bin, un, and1, or1, idx, len, call, by_table, input, Exprs, no, and_then, Stmt, set1, store1, ex1, out1, if1, while1, ret1, break1, next1, Block, end, seq1, Fn}
+use Rattle.language.specs.Syntax.{opt, Name, Expr, num, var, bin, un, and1, or1, idx, len, call, by_table, input, Exprs, no, and_then, Stmt, set1, store1, ex1, out1, if1, while1, ret1, break1, next1, Block, end, seq1}
 use Rattle.language.specs.Meaning.{on_some, as_word}
-use Rattle.grammar.specs.Bounds.{Costs, Fair, each, w_e, w_es, w_s, w_b, w_fn}
-use Rattle.steps.specs.Steps.{Opnd, o_top, o_own, Step, s_num, s_copy, s_bin, s_un, s_getw, s_setw, s_call, s_table, s_idx, s_put, s_len, MFn, MProg}
-use Rattle.steps.specs.Generate.{Scope, Ref, r_word, r_arr, find, arr_arg, own_at, unless, count, opnds, the_arr, wide_of, at_place, size_e, size_v, size_s, size_b, copies, sets_to, gen_var, gen_set, gen_e, gen_es, gen_v, gen_s, gen_b, slots_of, slots_from, words_of, arrays_of, scope, gen_fn}
+use Rattle.grammar.specs.Bounds.{Costs, Fair, w_e, w_es, w_s, w_b}
+use Rattle.steps.specs.Steps.{Opnd, o_top, o_own, Step, s_num, s_bin, s_un, s_getw, s_setw, s_call, s_table, s_idx, s_put, s_len, MFn, MProg}
+use Rattle.steps.specs.Generate.{Scope, Ref, r_word, r_arr, find, arr_arg, own_at, unless, count, opnds, the_arr, wide_of, at_place, size_e, size_v, size_s, size_b, copies, sets_to, gen_var, gen_set, gen_e, gen_es, gen_v, gen_s, gen_b}
 use Rattle.lower.specs.Code.{LI, l_sw, l_num}
-use Rattle.lower.specs.Lower.{Op, o_add, o_sub, o_mul, o_div, o_rem, o_eq, o_ne, o_lt, o_le, o_gt, o_ge, o_and, o_or, o_xor, o_shl, o_shr, Op1, u_neg, u_not, u_inv, u_flag, op_of, op1_of, ops, ops1, loads, stores, masks, lower, prologue, width, at_of, code_of, pro_width, fun_row}
+use Rattle.lower.specs.Lower.{Op, o_add, o_sub, o_mul, o_div, o_rem, o_eq, o_ne, o_lt, o_le, o_gt, o_ge, o_and, o_or, o_xor, o_shl, o_shr, Op1, u_neg, u_not, u_inv, u_flag, op_of, op1_of, ops, ops1, loads, stores, lower, width, code_of}
 use Rattle.lower.proofs.RowPlaces.{width_is}
 
 -- what each form's own instructions take at most

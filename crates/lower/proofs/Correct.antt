@@ -3,7 +3,7 @@ use mathlib.Core.Path.{◌≡◌, refl, sym, ap, subst, ◌∙◌}
 use mathlib.Core.Bool.{Bool, true, false, ◌&&◌}
 use mathlib.Core.Logic.{◌⊎◌, inl, inr}
 use mathlib.Core.List.{List, []}
-use Prim.Native.Nat.{ℕ, zero, suc, ◌+◌, ◌*◌, ◌≤◌, ◌<◌}
+use Prim.Native.Nat.{ℕ, zero, suc, ◌*◌, ◌≤◌}
 use native.Mathlib.Omega.{arith}
 use lib.ListN.{length}
 use lib.Dec.{T, leb, leb→le}
@@ -14,7 +14,7 @@ use Rattle.grammar.specs.Text.{Reads}
 use Rattle.language.specs.Meaning.{Mark, State, val, trap, word, means}
 use Rattle.processor.specs.Machine.{Machine, Next, goes, halts, faults, after, shown}
 use Rattle.image.specs.Image.{Image}
-use Rattle.language.specs.Observe.{Front, none_yet, and_so, outs_of, IsSpent}
+use Rattle.language.specs.Observe.{Front, and_so, outs_of, IsSpent}
 use Rattle.lower.specs.Promise.{Among, first, later, stack_words, StackShort, Right}
 use Rattle.steps.specs.Steps.{MProg, MSt, MNext, m_goes, m_ends, m_traps, m_stuck, m_step, m_then, m_after, m_begin, m_shown}
 use Rattle.steps.specs.Generate.{gen_prog}

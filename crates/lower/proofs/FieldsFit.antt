@@ -9,9 +9,9 @@ use lib.ListN.{length}
 use Rattle.language.specs.Syntax.{nth}
 use Rattle.lower.proofs.Lists.{nth_in}
 use Rattle.language.specs.Words.{all}
-use Rattle.lower.specs.Lower.{lens, size_of, array_at, tab_long, tab_at, masks, top, Op, Op1, word_no, frame_size, fun_of, loads, low, lower, o_add, o_and, o_div, o_eq, o_ge, o_gt, o_le, o_lt, o_mul, o_ne, o_or, o_rem, o_shl, o_shr, o_sub, o_xor, op_of, op1_of, ops, ops1, prologue, slots, stores, u_flag, u_inv, u_neg, u_not}
+use Rattle.lower.specs.Lower.{lens, size_of, array_at, tab_long, tab_at, top, Op, Op1, word_no, frame_size, fun_of, loads, low, lower, o_add, o_and, o_div, o_eq, o_ge, o_gt, o_le, o_lt, o_mul, o_ne, o_or, o_rem, o_shl, o_shr, o_sub, o_xor, op_of, op1_of, ops, ops1, prologue, slots, stores, u_flag, u_inv, u_neg, u_not}
 use Rattle.lower.proofs.InRow.{Firm, Neat, past}
-use Rattle.steps.specs.Steps.{Step, s_num, s_copy, s_bin, s_un, s_flag, s_getw, s_setw, s_jump, s_jz, s_call, s_out, s_ret, s_table, s_in, s_idx, s_put, s_len, Opnd, o_top, o_own, MFn, MProg}
+use Rattle.steps.specs.Steps.{Step, s_num, s_copy, s_bin, s_un, s_flag, s_getw, s_setw, s_jump, s_jz, s_call, s_out, s_ret, s_table, s_in, s_idx, s_put, s_len, o_top, o_own, MFn, MProg}
 use Rattle.processor.specs.Instr.{Near, Wf}
 use Rattle.lower.specs.Code.{LI, l_sw, l_jal, l_callr, l_num, to_real}
 use Rattle.lower.proofs.Operators.{past_both}

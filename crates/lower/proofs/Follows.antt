@@ -9,7 +9,7 @@ use native.Mathlib.Decide.{dec_lt}
 use Rattle.language.specs.Syntax.{opt, nth}
 use Rattle.processor.specs.Machine.{Machine, goes, halts, step, then, after}
 use Rattle.lower.specs.Promise.{Among}
-use Rattle.steps.specs.Steps.{Step, s_num, s_copy, s_bin, s_un, s_flag, s_getw, s_setw, s_jump, s_jz, s_call, s_out, s_ret, s_table, s_in, s_idx, s_put, s_len, Opnd, o_top, o_own, MProg, MSt, MNext, m_goes, m_ends, m_traps, m_stuck, exec, leaves, m_step, m_then, m_after}
+use Rattle.steps.specs.Steps.{Step, s_num, s_copy, s_bin, s_un, s_flag, s_getw, s_setw, s_jump, s_jz, s_call, s_out, s_ret, s_table, s_in, s_idx, s_put, s_len, MProg, MSt, MNext, m_goes, m_ends, m_traps, m_stuck, exec, leaves, m_step, m_then, m_after}
 use Rattle.lower.proofs.Instructions.{Env, V, here, ◌▸◌, d_num}
 use Rattle.lower.proofs.Realized.{Sees, x_end, x_trap, x_full}
 use Rattle.lower.proofs.Runs.{Runs, runs, all_of, some-long, steps_in}

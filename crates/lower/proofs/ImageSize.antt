@@ -1,15 +1,14 @@
 -- How long the image of a program is: its code, its tables and its values, by the tree and then by the text.
-use mathlib.Core.Path.{◌≡◌, refl, sym, ap, subst, ◌∙◌}
+use mathlib.Core.Path.{◌≡◌, refl, ap, ◌∙◌}
 use mathlib.Core.Bool.{Bool, true, false}
-use mathlib.Core.List.{List, [], ◌∷◌, ◌++◌, append-nil}
+use mathlib.Core.List.{List, [], ◌∷◌, ◌++◌}
 use mathlib.Core.Option.{Option, some, none}
-use Prim.Native.Nat.{ℕ, zero, suc, ◌+◌, ◌*◌, ◌≤◌}
+use Prim.Native.Nat.{ℕ, zero, suc, ◌+◌, ◌≤◌}
 use native.Mathlib.Omega.{arith}
 use lib.ListN.{length, length-append, replicate}
-use lib.Dec.{eqb}
 use Rattle.language.specs.Syntax.{pick, opt, nth, Name, Kind, k_word, k_arr, Param, Fn, Item, i_word, i_arr, i_data, i_table, i_fn, i_use, Prog}
 use Rattle.language.specs.Meaning.{Top, tops, all_tops, as_fn, as_table, Cells, words_in, arrays_in, all_arrays}
-use Rattle.grammar.specs.Bounds.{each, w_fn, w_i, w_is, words}
+use Rattle.grammar.specs.Bounds.{each, w_fn, w_is, words}
 use Rattle.image.specs.Image.{Image, row}
 use Rattle.steps.specs.Steps.{MFn, MProg}
 use Rattle.steps.specs.Generate.{slots_from, slots_of, words_of, scope, gen_body, gen_b, sorted, fn_nos, gen_fn, gen_prog}

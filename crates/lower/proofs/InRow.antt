@@ -6,7 +6,7 @@ use mathlib.Core.Option.{some}
 use Prim.Native.Nat.{ℕ, zero, suc, ◌+◌, ◌≤◌, ◌<◌}
 use Rattle.language.specs.Syntax.{nth}
 use Rattle.language.specs.Words.{all}
-use Rattle.steps.specs.Steps.{Step, s_num, s_copy, s_bin, s_un, s_flag, s_getw, s_setw, s_jump, s_jz, s_call, s_out, s_ret, s_table, s_in, s_idx, s_put, s_len, Opnd, o_top, o_own, Shape, MFn, MProg}
+use Rattle.steps.specs.Steps.{Step, s_num, s_copy, s_bin, s_un, s_flag, s_getw, s_setw, s_jump, s_jz, s_call, s_out, s_ret, s_table, s_in, s_idx, s_put, s_len, Opnd, o_top, o_own, MFn, MProg}
 use Rattle.lower.specs.Code.{LI}
 use Rattle.lower.proofs.Lists.{none-some}
 use Rattle.lower.specs.Lower.{lens, size_of, slots, frame_size, lower, prologue, stub, fun_of, others}

@@ -9,7 +9,7 @@ use lib.ListN.{length, drop, length-append}
 use Rattle.language.specs.Syntax.{opt, nth}
 use Rattle.lower.specs.Lower.{Op, at_in, at_of, code_of, entry_in, entry_of, fun_of, fun_row, fun_width, funs_row, lower, o_add, o_and, o_div, o_eq, o_ge, o_gt, o_le, o_lt, o_mul, o_ne, o_or, o_rem, o_shl, o_shr, o_sub, o_xor, op_of, ops, others, pro_width, prologue, row_of, width}
 use Rattle.lower.proofs.InRow.{Laid, Neat, Seg, past}
-use Rattle.steps.specs.Steps.{Step, s_num, s_copy, s_bin, s_un, s_flag, s_getw, s_setw, s_jump, s_jz, s_call, s_out, s_ret, s_table, s_in, s_idx, s_put, s_len, Opnd, o_top, o_own, MFn, MProg}
+use Rattle.steps.specs.Steps.{Step, s_num, s_copy, s_bin, s_un, s_flag, s_getw, s_setw, s_jump, s_jz, s_call, s_out, s_ret, s_table, s_in, s_idx, s_put, s_len, o_top, o_own, MFn, MProg}
 use Rattle.lower.proofs.Lists.{none-some}
 use Rattle.lower.proofs.Instructions.{LI}
 

@@ -1,10 +1,9 @@
 -- Reading what there is to read, and arrays at the top.
 use mathlib.Core.Path.{◌≡◌, refl, sym, ap, subst, ◌∙◌}
 use mathlib.Core.Bool.{Bool, true, false}
-use mathlib.Core.Logic.{◌⊎◌, inl, inr}
-use mathlib.Core.List.{List, [], ◌∷◌, ◌++◌}
+use mathlib.Core.List.{List, [], ◌∷◌}
 use mathlib.Core.Option.{Option, some, none}
-use Prim.Native.Nat.{ℕ, suc, ◌+◌, ◌-◌, ◌*◌, ◌%◌, ◌≤◌, ◌<◌}
+use Prim.Native.Nat.{ℕ, suc, ◌+◌, ◌*◌, ◌%◌, ◌≤◌, ◌<◌}
 use native.Mathlib.Omega.{arith}
 use lib.ListN.{length}
 use lib.Dec.{eqb, ltb}
@@ -13,13 +12,12 @@ use native.Mathlib.Decide.{dec_lt}
 use Rattle.language.specs.Syntax.{pick, opt, nth, put}
 use Rattle.language.specs.Words.{all, bit, add, and_w}
 use Rattle.language.specs.Meaning.{Cells}
-use Rattle.steps.specs.Steps.{Opnd, o_top, o_own, s_in, s_idx, s_put, s_len, MFn, MSt, upd, MNext, m_goes, m_traps, m_stuck, to, reads_in, with_array, exec}
-use Rattle.lower.specs.Lower.{live_of, place, high, low, lens, area, begin_of, size_of, array_at, data_words, slots, lower}
-use Rattle.lower.proofs.Lists.{length-put, nth_in, nth_low, nth_right, nth-put-other, put_right, none-some}
-use Rattle.lower.proofs.Instructions.{Env, V, here, ◌▸◌, ◌▹◌, d_lw, d_sw, d_num, d_lui, d_alui, d_alu, d_in, d_none, d_addg, d_lwr, d_swr, base, floor_at, got}
+use Rattle.steps.specs.Steps.{Opnd, o_top, o_own, s_in, s_idx, s_put, s_len, MFn, MSt, upd, m_goes, m_traps, to, reads_in, exec}
+use Rattle.lower.specs.Lower.{live_of, place, high, low, lens, size_of, array_at, slots}
+use Rattle.lower.proofs.Lists.{length-put, nth_in, nth_low, nth-put-other, none-some}
+use Rattle.lower.proofs.Instructions.{V, here, ◌▸◌, ◌▹◌, d_lw, d_sw, d_num, d_lui, d_alui, d_alu, d_in, d_none, d_addg, d_lwr, d_swr, base, floor_at}
 use Rattle.lower.proofs.Runs.{taken_bnz, left_bnz}
 use Rattle.lower.proofs.Operators.{num-is}
-use Rattle.lower.proofs.InRow.{Firm}
 use Rattle.lower.proofs.TopArrays.{row_by, row-long, row_at, row_in, row_put, size_is, changed, lens-put, byte_is}
 use Rattle.lower.proofs.Match.{globals_in, Ctx, Match, Globals, inside, Does, by-opt, stored_match, in_room, rets-same, frame_same, globals_put}
 use Rattle.lower.proofs.StepWords.{here_is, then_is, firm, word_at}

@@ -13,15 +13,15 @@ use Rattle.language.specs.Meaning.{Cells}
 use Rattle.language.specs.Syntax.{pick, nth, put}
 use Rattle.language.specs.Words.{all, add}
 use Rattle.steps.specs.Steps.{Step, s_num, s_copy, s_bin, s_un, s_flag, s_getw, s_setw, s_jump, s_jz, s_out, s_ret, Shape, MFn, MSt, Saved, upd, m_goes, m_traps, to, leaves, exec}
-use Rattle.lower.specs.Lower.{Op1, u_flag, bin_of, no_bin, un_of, op_of, op1_of, ops, ops1, high, low, down_to, area, plens, live_of, data_size, data_words, slots, frame_size, lower}
-use Rattle.lower.proofs.Lists.{length-put, nth_low, nth_left, nth-put-other, put-left}
+use Rattle.lower.specs.Lower.{Op1, u_flag, bin_of, no_bin, un_of, op_of, op1_of, ops, ops1, high, low, down_to, area, plens, live_of, data_size, slots, frame_size, lower}
+use Rattle.lower.proofs.Lists.{length-put, nth_low, nth-put-other}
 use Rattle.lower.proofs.TopArrays.{row_by, row_word, row-set}
 use Rattle.lower.proofs.Instructions.{Env, V, LI, l_sw, here, ◌▸◌, ◌▹◌, d_lw, d_sw, d_num, d_lui, d_alui, d_j, d_ret, d_up, d_out, d_addg, d_lwr, d_swr, base, floor_at, address, sets}
 use Rattle.lower.proofs.Realized.{wraps, stays}
 use Rattle.lower.proofs.Runs.{taken_bnz, left_bnz, and_on}
 use Rattle.lower.proofs.Operators.{num-is, bin-lt, un-lt, ops1-run, ops-run, ops-trap, seg_left, seg_right, past_both, binary-is, div0-is, single-is}
 use Rattle.lower.proofs.InRow.{Seg, past, Firm}
-use Rattle.lower.proofs.Match.{Ctx, Match, Globals, inside, over, Does, by-opt, stored_match, in_room, rets-same, frame_same, globals_in, globals_put, Rets, last, more}
+use Rattle.lower.proofs.Match.{Ctx, Match, Globals, inside, over, Does, by-opt, stored_match, in_room, rets-same, frame_same, globals_put, Rets, last, more}
 use Rattle.steps.proofs.Variables.{upd_same}
 
 pub add_turn : (h f l : ℕ) → add (add h f) l ≡ add (add h l) f

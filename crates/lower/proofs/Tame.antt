@@ -1,22 +1,21 @@
 -- What the steps of a checked program keep to: all that the back end asks of them.
 use mathlib.Core.Path.{◌≡◌, refl, sym, ◌∙◌, ap, subst}
-use mathlib.Core.Bool.{Bool, true, false, not, ◌&&◌, false≢true}
+use mathlib.Core.Bool.{Bool, true, false, not, false≢true}
 use mathlib.Core.List.{List, [], ◌∷◌, ◌++◌}
 use mathlib.Core.Option.{Option, some, none}
 use Prim.Native.Nat.{ℕ, zero, suc, ◌+◌, ◌≤◌, ◌<◌, max}
 use native.Mathlib.Omega.{arith}
-use native.Mathlib.Nat.{zero-add, add_assoc, suc-add}
-use lib.ListN.{length, length-append, length-replicate, replicate}
+use lib.ListN.{length, replicate}
 use lib.Dec.{T, eqb, leb, leb→le}
-use Rattle.language.specs.Syntax.{pick, opt, nth, Name, call, no as no-more-es, Kind, k_word, k_arr, Param, Arr, Fn, Item, i_word, i_arr, i_data, i_table, i_fn, i_use, File, Prog, stage_k, stage_ps, stage_as, stage_is, stage}
+use Rattle.language.specs.Syntax.{pick, opt, nth, Name, Kind, k_word, k_arr, Param, Arr, Fn, Item, i_word, i_arr, i_data, i_table, i_fn, i_use, Prog, stage_k, stage_ps, stage_as, stage_is, stage}
 use Rattle.language.specs.Words.{all}
-use Rattle.language.specs.Meaning.{Cells, Is, is_word, is_arr, is_table, is_fn, Top, tops, all_tops, arrays_in, all_arrays, as_fn, as_table, first_file, w_main}
+use Rattle.language.specs.Meaning.{Cells, Is, is_word, is_arr, is_table, is_fn, Top, tops, all_tops, as_fn, as_table}
 use Rattle.language.specs.Checks.{ok, ok_fn}
 use Rattle.grammar.specs.Text.{Reads}
-use Rattle.steps.specs.Steps.{Opnd, o_top, o_own, Step, s_num, s_copy, s_bin, s_un, s_flag, s_getw, s_setw, s_jump, s_jz, s_call, s_table, s_out, s_ret, s_in, s_idx, s_put, s_len, Shape, MFn, MProg, m_goes, m_step, m_begin}
-use Rattle.steps.specs.Generate.{Slot, words_of, arrays_of, slot_of, slots_from, shapes_of, scope, fn_no, fn_nos, sorted, gen_fn, boot, gen_prog}
+use Rattle.steps.specs.Steps.{Opnd, o_top, o_own, Step, s_num, s_copy, s_bin, s_un, s_flag, s_getw, s_setw, s_jump, s_jz, s_call, s_table, s_out, s_ret, s_in, s_idx, s_put, s_len, MFn, MProg, m_goes, m_step, m_begin}
+use Rattle.steps.specs.Generate.{words_of, arrays_of, slot_of, slots_from, shapes_of, fn_nos, sorted, gen_fn, boot, gen_prog}
 use Rattle.steps.specs.Fits.{Each, Small, OpndFits, Takes, StepFits, FnFits, Costs, ProgFits, CellsFit, but_first}
-use Rattle.lower.specs.Lower.{flat, live, live_of, kept, part, data_of, lens, area, size_of, slots, frame_size, fun_of, others, main_no, row_of}
+use Rattle.lower.specs.Lower.{flat, live, live_of, kept, part, data_of, lens, area, size_of, slots, fun_of, others, main_no, row_of}
 use Rattle.lower.specs.Correct.{BareFn, BareI, Bare}
 use Rattle.lower.proofs.Lists.{none-some, nth_in}
 use Rattle.lower.proofs.TopArrays.{lens-part}

@@ -1,5 +1,5 @@
 -- What code that lowers programs of stage 0 takes for granted of their steps.
-use Rattle.std.specs.Prelude.{◌≡◌, Bool, true, false, ◌&&◌, List, [], ◌∷◌, ℕ, ◌+◌, ◌*◌, ◌≤◌, ◌<◌, length, leb}
+use Rattle.std.specs.Prelude.{◌≡◌, Bool, true, false, ◌&&◌, List, [], ◌∷◌, ℕ, ◌*◌, ◌≤◌, ◌<◌, length, leb}
 use Rattle.language.specs.Syntax.{Prog, stage}
 use Rattle.language.specs.Words.{all}
 use Rattle.grammar.specs.Text.{Reads}

@@ -1,6 +1,6 @@
 -- What is proved of the compiled image of every text's program.
 use Rattle.std.specs.Prelude.{◌≡◌, List, [], ℕ, ◌+◌, ◌*◌, ◌≤◌, ◌<◌, length}
-use Rattle.language.specs.Syntax.{Param, Fn, Item, i_word, i_arr, i_data, i_table, i_fn, i_use, Prog, stage}
+use Rattle.language.specs.Syntax.{Fn, Item, i_word, i_arr, i_data, i_table, i_fn, i_use, Prog, stage}
 use Rattle.language.specs.Checks.{totals}
 use Rattle.language.specs.Meaning.{all_words}
 use Rattle.grammar.specs.Text.{Reads}

@@ -5,7 +5,7 @@ use Rattle.language.specs.Syntax.{pick, opt, nth, Prog}
 use Rattle.language.specs.Words.{all, bit, and_w, or_w, xor_w, add, sub, mul, shl, shr}
 use Rattle.language.specs.Meaning.{Cells, first_file, w_main}
 use Rattle.image.specs.Image.{Image}
-use Rattle.steps.specs.Steps.{Step, s_num, s_copy, s_bin, s_un, s_flag, s_getw, s_setw, s_jump, s_jz, s_call, s_out, s_ret, s_table, s_in, s_idx, s_put, s_len, Opnd, o_top, o_own, MFn, MProg}
+use Rattle.steps.specs.Steps.{Step, s_num, s_copy, s_bin, s_un, s_flag, s_getw, s_setw, s_jump, s_jz, s_call, s_out, s_ret, s_table, s_in, s_idx, s_put, s_len, o_top, o_own, MFn, MProg}
 use Rattle.steps.specs.Generate.{fn_no, gen_prog}
 use Rattle.processor.specs.Instr.{encode}
 use Rattle.processor.specs.declared.instr.Imm.TheVariants.{Addi, Sltiu, Xori, Andi}

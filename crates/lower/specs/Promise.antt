@@ -1,7 +1,7 @@
 -- The page of promises: what an image does on the board, and what the call `build` answers and writes.
 -- Rests on the language (Syntax, Words, Meaning, Checks, Observe), on texts (Text), on the processor (Machine) and on images (Image).
-use Rattle.std.specs.Prelude.{◌≡◌, ◌⊎◌, ◌↔◌, List, [], ◌∷◌, ℕ, ◌+◌, ◌-◌, ◌*◌, ◌<◌, ◌≤◌, length, take, drop}
-use Rattle.std.proofs.Math.Option.{Option, some, none}
+use Rattle.std.specs.Prelude.{◌≡◌, ◌⊎◌, ◌↔◌, List, ◌∷◌, ℕ, ◌+◌, ◌-◌, ◌*◌, ◌<◌, ◌≤◌, length, take, drop}
+use Rattle.std.proofs.Math.Option.{some}
 use Rattle.language.specs.Syntax.{Prog, stage}
 use Rattle.language.specs.Checks.{totals}
 use Rattle.language.specs.Meaning.{all_words, Mark, word, State, val, trap, means}

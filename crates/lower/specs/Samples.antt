@@ -1,6 +1,6 @@
 -- Programs compiled, placed in a memory full of ones, and run by the definitions.
-use Rattle.std.specs.Prelude.{◌≡◌, true, false, List, [], ◌∷◌, ◌++◌, ℕ, ◌+◌, ◌*◌, length, replicate}
-use Rattle.language.specs.Syntax.{num, var, bin, idx, len, call, by_table, input, no, and_then, set1, store1, ex1, out1, ret1, end, seq1, k_word, i_word, i_arr, i_data, i_table, i_fn, Prog}
+use Rattle.std.specs.Prelude.{◌≡◌, true, false, List, [], ◌∷◌, ◌++◌, ℕ, ◌+◌, ◌*◌, replicate}
+use Rattle.language.specs.Syntax.{num, var, bin, idx, len, call, by_table, input, no, set1, store1, ex1, out1, ret1, end, seq1, i_word, i_arr, i_data, i_table, Prog}
 use Rattle.language.specs.Meaning.{w_main}
 use Rattle.language.specs.Samples.{a_name, b_name, f_name, g_name, t_name, x_name, function, word_param, one, factorial}
 use Rattle.processor.specs.Machine.{Machine, Next, goes, halts, faults, after}

@@ -1,5 +1,7 @@
 // From programs to images: the theory of the compiler. What is promised stands in specs/Promise, the compiler as a definition in
 // specs/Lower, what `build` gives in specs/Build. The theorems stand on the contracts below; each function only says that its theorem is proved.
+#![tactic(auto)]
+
 ghost use Rattle.lower.specs.Correct.{CompiledRight, CompiledSound, CompiledFits, CompiledShort, BareRight};
 ghost use Rattle.lower.specs.Build.{BuildsRight};
 ghost use Rattle.lower.specs.Samples.{Worked};

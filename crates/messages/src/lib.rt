@@ -1,4 +1,6 @@
 // What an engineer is told of a text that is no program: where, and why.
+#![tactic(auto)]
+
 ghost use Rattle.messages.specs.Explains.{Explains};
 ghost use Rattle.std.specs.Prelude.{◌+◌, ◌*◌, ◌≤◌, length, IfOk};
 

@@ -1,5 +1,5 @@
 -- The steps that the code has, as steps of the middle language; and which step five words are.
-use Rattle.std.specs.Prelude.{◌≡◌, ℕ, true, List, [], Some, None, MatchOption, ◌==◌}
+use Rattle.std.specs.Prelude.{◌≡◌, ℕ, [], Some, None, MatchOption, ◌==◌}
 use Rattle.std.specs.declared.option.Option as std
 use Rattle.language.specs.Syntax.{pick}
 use Rattle.steps.specs.Steps as steps

@@ -3,7 +3,6 @@ use Rattle.std.proofs.Common.{◌≡◌, ℕ, zero, suc, ◌+◌, ◌-◌, ◌/�
 use mathlib.Core.Option.{Option, some, none}
 use Rattle.std.proofs.lemmas.List.{take_all, drop_all, length-drop}
 use Rattle.std.proofs.lemmas.Bool.{cases_eq}
-use Rattle.std.specs.declared.option.Option as std
 use Rattle.language.specs.Syntax.{pick, Name, Kind, k_word, k_arr, Param}
 use Rattle.language.specs.Words.{all}
 use Rattle.language.specs.Meaning.{on_some}

@@ -6,7 +6,6 @@ use Rattle.language.specs.Meaning.{on_some, Is, is_word, is_arr, is_table, is_fn
 use Rattle.steps.specs.Steps.{o_top, s_num, s_getw, s_setw}
 use Rattle.steps.specs.Generate.{Ref, r_word, r_arr, find, scope, slots_of, is_wide, ref_arr, ref_wide, ref_word, copies, sets_to}
 use Rattle.rows.specs.Trees.{kind_no}
-use Rattle.names.specs.declared.found.Reference as found
 use Rattle.names.specs.declared.found.Reference.TheVariants.{OwnWord, OwnArray, TopWord, TopArray, Other}
 use Rattle.names.specs.Finds.{ref_kind, ref_index, top_in}
 use Rattle.names.specs.Kinds.{kind_or, kind_of_item}

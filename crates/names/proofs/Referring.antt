@@ -1,7 +1,7 @@
 -- Items passed one by one, and what each refers to.
 use Rattle.std.proofs.Common.{◌≡◌, ℕ, ◌+◌, ◌<◌, ◌≤◌, min, Bool, true, false, ◌&&◌, eqb, List, [], ◌∷◌, ◌++◌, length, get_or, drop, sym, refl, ap, ◌∙◌, append-nil, arith, eq-eqb, ne_eqb}
 use mathlib.Core.Option.{Option, some, none}
-use Rattle.language.specs.Syntax.{opt, Name, same, Param, Arr, Fn, Item, i_word, i_arr, i_data, i_table, i_fn, i_use, Prog}
+use Rattle.language.specs.Syntax.{opt, Name, Param, Arr, Fn, Item, i_word, i_arr, i_data, i_table, i_fn, i_use, Prog}
 use Rattle.language.specs.Meaning.{on_some, Top, top_of, all_tops, as_fn, first_file, w_main}
 use Rattle.language.specs.Checks.{same_k, no_more, has_main, param_names, arr_names, fn_named, same_ps, head_fn, alike, all_there}
 use Rattle.rows.specs.Has.{Has, named}
@@ -11,7 +11,7 @@ use Rattle.std.specs.declared.option.Option as std
 use Rattle.names.specs.declared.found.Spot.{Spot}
 use Rattle.names.specs.declared.found.Listed.{Listed}
 use Rattle.names.specs.Finds.{local_names, IsTop}
-use Rattle.names.specs.Fold.{kinds, fit}
+use Rattle.names.specs.Fold.{fit}
 use Rattle.names.specs.Kinds.{IsListed, IsParams, FindsParams, item_params}
 use Rattle.names.specs.Effects.{local_kinds}
 use Rattle.names.specs.Resolved.{like, there, item_resolved, items_resolved, files_resolved}

@@ -1,4 +1,6 @@
 // Names looked up in a program's row, and the check of function bodies.
+#![tactic(auto)]
+
 pub mod asking;
 pub mod body;
 pub mod find;

@@ -1,6 +1,6 @@
 -- Items of a file, files, and a whole text, against the model parser and the grammar.
 use Rattle.std.proofs.Common.{◌≡◌, ℕ, ◌+◌, ◌≤◌, Bool, true, false, ◌&&◌, T, leb, List, [], ◌∷◌, ◌++◌, length, sym, refl, ap, ◌∙◌, subst, arith, le→leb}
-use mathlib.Core.Option.{some, none}
+use mathlib.Core.Option.{none}
 use Rattle.language.specs.Syntax.{pick, Name, same, Item, Prog}
 use Rattle.grammar.specs.Text.{pieces, gap, is_name, t_semi, k_file, flat, calm, AreFiles}
 use Rattle.grammar.specs.Parse.{Res, fail, got, bind, eat, eat_name}

@@ -1,6 +1,6 @@
 -- Items from their parts, and an item by its first word, against the model parser.
 use Rattle.std.proofs.Common.{◌≡◌, ℕ, ◌+◌, ◌-◌, true, false, List, [], ◌∷◌, ◌++◌, length, Ok, Err, Result, sym, refl, ap, ◌∙◌, subst, append-nil, arith, Bor}
-use mathlib.Core.Option.{some, none}
+use mathlib.Core.Option.{none}
 use Rattle.language.specs.Syntax.{Name, same, Item, i_word, i_arr, i_data, i_table, i_use}
 use Rattle.grammar.specs.Text.{pieces, gap, t_semi, t_colon, t_gets, t_lb, t_rb, k_var, k_array, k_bytes, k_table, k_use, k_fn}
 use Rattle.grammar.specs.Parse.{Res, fail, got, bind}

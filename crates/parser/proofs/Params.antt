@@ -1,6 +1,6 @@
 -- Parameters and their kinds, against the model parser.
 use Rattle.std.proofs.Common.{◌≡◌, ℕ, ◌+◌, ◌≤◌, true, false, List, [], ◌∷◌, ◌++◌, length, Result, sym, refl, ap, ◌∙◌, subst, arith, Bor}
-use mathlib.Core.Option.{some, none}
+use mathlib.Core.Option.{none}
 use Rattle.language.specs.Syntax.{pick, Name, same, k_word, k_arr, Param}
 use Rattle.grammar.specs.Text.{pieces, gap, t_lb, t_rb, t_rp, t_comma, t_colon}
 use Rattle.grammar.specs.Parse.{Res, fail, got, eat}

@@ -1,4 +1,6 @@
 // Programs: items, files and whole texts, read as the model parser reads them and written as the row of their tree.
+#![tactic(auto)]
+
 mod file;
 mod item;
 mod kind;

@@ -8,7 +8,7 @@ use Rattle.pieces.specs.declared.piece.Piece.TheVariants.{Word, Text, Sign, Pair
 use Rattle.language.specs.Syntax.{Name}
 use Rattle.grammar.specs.Text.{pieces, gap, word_bytes, is_name}
 use Rattle.grammar.specs.Parse.{find}
-use Rattle.grammar.specs.ParseAll.{Lead, l_other, leads, lead}
+use Rattle.grammar.specs.ParseAll.{l_other, leads, lead}
 use Rattle.pieces.specs.Cutting.{Cut}
 use Rattle.pieces.specs.Seen.{class, keep}
 use Rattle.pieces.specs.Leads.{lead_of, head_lead, LeadFine, Leads, LeadFirst, Led}

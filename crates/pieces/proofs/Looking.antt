@@ -8,7 +8,7 @@ use Rattle.pieces.specs.declared.piece.Piece.TheVariants as cuts
 use Rattle.pieces.specs.declared.piece.Piece.TheVariants.{Word, Text, Sign, Pair, Bad}
 use Rattle.language.specs.Syntax.{pick, Name, same}
 use Rattle.grammar.specs.Text.{pieces, gap, word_byte, word_bytes, is_name, decimal}
-use Rattle.grammar.specs.Parse.{Piece, p_name, p_other, look, Entry, find, fixed, num_of}
+use Rattle.grammar.specs.Parse.{p_name, p_other, look, Entry, find, fixed, num_of}
 use Rattle.pieces.specs.Cutting.{Cut, Sane}
 use Rattle.pieces.specs.Seen.{piece_of, class, keep, Fine, Looks, LooksAs, First, Nothing, Seen, ate, is_no_name, Signy, Ate}
 use Rattle.grammar.proofs.PieceKinds.{false_of, same-eq, look-name}

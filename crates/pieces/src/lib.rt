@@ -1,4 +1,6 @@
 // From the bytes of a text to its pieces, one at a time: what stands first, as names, numbers, signs and first words, and what is left.
+#![tactic(auto)]
+
 pub mod eating;
 pub mod flat;
 pub mod lead;

@@ -1,11 +1,11 @@
 -- The word of an instruction that fits is decoded as that instruction, so it does what the instruction does. It rests on the
 -- fields of a word (Fields) and on what any word does (Undo).
-use Rattle.std.proofs.Common.{◌≡◌, ℕ, ◌+◌, ◌-◌, ◌*◌, ◌/◌, ◌%◌, ◌<◌, Bool, ◌&&◌, eqb, Some, None, Option, refl, ap, ◌∙◌, ap₂, arith, lit<}
+use Rattle.std.proofs.Common.{◌≡◌, ℕ, ◌+◌, ◌*◌, ◌/◌, ◌%◌, ◌<◌, Bool, ◌&&◌, eqb, Some, None, Option, refl, ap, ◌∙◌, ap₂, arith, lit<}
 use Rattle.language.specs.Syntax.{pick}
 use Rattle.language.specs.Words.{signed}
 use Rattle.processor.specs.Machine.{Machine, f_op, f_rd, f_3, f_1, f_2, f_7, imm_i_of, imm_s_of, imm_b_of, imm_j_of, does}
 use Rattle.processor.specs.Decode.{branch_of, prod_of, alu_of, imm_of, ok_imm, ok_reg, decode, runs}
-use Rattle.processor.specs.Instr.{word, Near, Even, encode, exec, Wf, cond3, imm3, shift3, shift7, alu3, alu7, prod3}
+use Rattle.processor.specs.Instr.{Near, Even, encode, exec, Wf, cond3, imm3, shift3, shift7, alu3, alu7, prod3}
 use Rattle.processor.specs.declared.instr.Cond.{Cond}
 use Rattle.processor.specs.declared.instr.Cond.TheVariants.{Beq, Bne, Blt, Bge, Bltu, Bgeu}
 use Rattle.processor.specs.declared.instr.Imm.{Imm}

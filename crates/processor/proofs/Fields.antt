@@ -1,5 +1,5 @@
 -- The fields of a word, and numbers of few bits with a sign.
-use Rattle.std.proofs.Common.{◌≡◌, ℕ, ◌+◌, ◌-◌, ◌*◌, ◌/◌, ◌%◌, ◌<◌, ◌∙◌, ap₂, arith}
+use Rattle.std.proofs.Common.{◌≡◌, ℕ, ◌+◌, ◌*◌, ◌/◌, ◌%◌, ◌<◌, ◌∙◌, ap₂, arith}
 use lib.Pow.{mod-pow-add}
 use Rattle.language.specs.Words.{signed}
 use Rattle.processor.specs.Machine.{f_op, f_rd, f_3, f_1, f_2, f_7}

@@ -1,5 +1,5 @@
 -- A word does what the instruction that it is does.
-use Rattle.std.proofs.Common.{◌≡◌, ℕ, ◌-◌, ◌/◌, ◌%◌, Bool, true, false, ◌&&◌, T, eqb, Some, Option, sym, refl, ap, ◌∙◌, subst, arith, eqb→eq}
+use Rattle.std.proofs.Common.{◌≡◌, ℕ, ◌/◌, ◌%◌, Bool, true, false, ◌&&◌, T, eqb, Some, sym, refl, ap, ◌∙◌, subst, arith, eqb→eq}
 use Rattle.language.specs.Syntax.{pick, opt}
 use Rattle.language.specs.Words.{add, shr}
 use Rattle.processor.specs.Machine.{Machine, Next, goes, faults, reg, at_pc, on, put_reg, f_op, f_rd, f_3, f_1, f_2, f_7, imm_i_of, imm_s_of, imm_b_of, does, branch, muls, alu, sar, ok_i, ok_r}

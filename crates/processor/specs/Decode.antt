@@ -1,5 +1,5 @@
 -- Which instruction a word is, in the order in which the processor looks.
-use Rattle.std.specs.Prelude.{ℕ, ◌-◌, ◌/◌, ◌%◌, ◌<◌, Bool, true, ◌&&◌, ◌||◌, Some, None, Option, ◌==◌}
+use Rattle.std.specs.Prelude.{ℕ, ◌/◌, ◌%◌, ◌<◌, Bool, true, ◌&&◌, ◌||◌, Some, None, Option, ◌==◌}
 use Rattle.language.specs.Syntax.{pick}
 use Rattle.processor.specs.Machine.{Machine, Next, faults, f_op, f_rd, f_3, f_1, f_2, f_7, imm_i_of, imm_s_of, imm_b_of, imm_j_of}
 use Rattle.processor.specs.Instr.{exec}

@@ -1,5 +1,5 @@
 -- Instructions as data, as words, and what each does.
-use Rattle.std.specs.Prelude.{◌≡◌, ℕ, ◌+◌, ◌-◌, ◌*◌, ◌/◌, ◌%◌, ◌<◌, Bool, not, ◌==◌, nat_lt}
+use Rattle.std.specs.Prelude.{◌≡◌, ℕ, ◌+◌, ◌*◌, ◌/◌, ◌%◌, ◌<◌, Bool, not, ◌==◌, nat_lt}
 use Rattle.language.specs.Syntax.{pick, opt}
 use Rattle.language.specs.Words.{all, bit, and_w, or_w, xor_w, add, sub, mul, shl, shr}
 use Rattle.processor.specs.Machine.{Machine, Next, goes, faults, reg, set_reg, at_pc, on, load, less_s, sar, stored, put_reg, envs, does}

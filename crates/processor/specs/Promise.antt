@@ -1,5 +1,5 @@
 -- What the code promises: the processor as the code has it, with what is read and put out beside it, against the definition.
-use Rattle.std.specs.Prelude.{◌≡◌, ℕ, ◌+◌, ◌/◌, ◌%◌, ◌<◌, ◌≤◌, List, [], ◌∷◌, ◌++◌, length, take, drop, Some, None, Option, ◌==◌}
+use Rattle.std.specs.Prelude.{◌≡◌, ℕ, ◌/◌, ◌%◌, ◌<◌, ◌≤◌, List, [], ◌∷◌, ◌++◌, length, take, drop, Some, None, Option, ◌==◌}
 use mathlib.Core.Option.{none}
 use Rattle.language.specs.Syntax.{pick, opt, nth, put}
 use Rattle.language.specs.Words.{add}

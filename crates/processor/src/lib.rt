@@ -1,5 +1,7 @@
 // The processor: its instructions as data and as words, and its runs. specs/Machine is what must be believed of it; bit
 // fields are seen in this crate and nowhere else.
+#![tactic(auto)]
+
 ghost use Rattle.processor.specs.Samples.{LoopRuns};
 
 mod cpu;

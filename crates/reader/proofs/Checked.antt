@@ -4,9 +4,9 @@ use mathlib.Core.Option.{Option, some, none}
 use Rattle.language.specs.Syntax.{pick, Name, Item, i_word, i_arr, i_data, i_table, i_fn, i_use, Prog}
 use Rattle.language.specs.Checks.{ok, has_main}
 use Rattle.grammar.specs.Text.{pieces, gap}
-use Rattle.grammar.specs.Parse.{Res, fail, got}
+use Rattle.grammar.specs.Parse.{got}
 use Rattle.grammar.specs.ParseAll.{parse}
-use Rattle.grammar.specs.Reading.{small, checked, reading}
+use Rattle.grammar.specs.Reading.{small, reading}
 use Rattle.grammar.proofs.PieceKinds.{true_of, and_0}
 use Rattle.grammar.proofs.Reading.{reading-sound}
 use Rattle.limits.specs.Split.{item_resolved as item-l, items_resolved as items-l, files_resolved as files-l, resolved as resolved-l}

@@ -1,4 +1,6 @@
 // What an engineer is told of a text that is no program: where, and why.
+#![tactic(auto)]
+
 ghost use Rattle.std.specs.Prelude.{◌+◌, ◌*◌, ◌≤◌, length, MatchResult};
 ghost use Rattle.parser.specs.Programs.{Unread};
 ghost use Rattle.reader.specs.Answers.{work_words};

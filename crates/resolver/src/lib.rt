@@ -1,4 +1,6 @@
 // One pass over a program's row that writes the program with its names resolved: each name is looked up once and replaced by what it stands for.
+#![tactic(auto)]
+
 ghost use Rattle.std.specs.Prelude.{◌≡◌, ◌<◌, true, length};
 ghost use Rattle.language.specs.Syntax.{Prog};
 ghost use Rattle.language.specs.Meaning.{first_file, w_main};

@@ -1,8 +1,7 @@
 -- What stands in a row, part by part.
-use Rattle.std.proofs.Common.{◌≡◌, ℕ, suc, ◌+◌, ◌-◌, ◌<◌, ◌≤◌, min, Bool, true, false, ◌&&◌, eqb, List, [], ◌∷◌, ◌++◌, length, get_or, drop, sym, refl, ap, ◌∙◌, subst, ap₂, append_assoc, arith, length-append, eq-eqb, ne_eqb}
+use Rattle.std.proofs.Common.{◌≡◌, ℕ, ◌+◌, ◌<◌, ◌≤◌, min, List, ◌∷◌, ◌++◌, length, get_or, drop, sym, refl, ap, ◌∙◌, subst, append_assoc, arith, length-append}
 use Rattle.std.proofs.lemmas.List.{drop_more, drop-drop, drop_at, get_or-drop, get_or_append_left}
-use Rattle.language.specs.Syntax.{Name, same}
-use Rattle.rows.specs.Has.{Has, named}
+use Rattle.rows.specs.Has.{Has}
 
 pub has_word : {w : List ℕ} {i a : ℕ} {ws : List ℕ} → Has w i (a ∷ ws) → get_or w i 0 ≡ a
 has_word {w} {i} {a} {ws} h =

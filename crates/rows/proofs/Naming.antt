@@ -1,10 +1,7 @@
 -- Names compared word by word.
-use Rattle.std.proofs.Common.{◌≡◌, ℕ, suc, ◌+◌, ◌-◌, ◌<◌, ◌≤◌, Bool, true, false, ◌&&◌, eqb, List, [], ◌∷◌, ◌++◌, length, get_or, drop, sym, refl, ap, ◌∙◌, subst, ap₂, arith, eq-eqb, ne_eqb}
+use Rattle.std.proofs.Common.{◌≡◌, ℕ, suc, ◌+◌, ◌<◌, ◌≤◌, Bool, true, false, ◌&&◌, eqb, List, [], ◌∷◌, length, get_or, drop, refl, ap, ◌∙◌, ap₂, eq-eqb, ne_eqb}
 use Rattle.std.proofs.lemmas.List.{drop_more, drop_all}
-use Rattle.std.proofs.lemmas.Bool.{cases_eq}
 use Rattle.language.specs.Syntax.{Name, same}
-use Rattle.rows.specs.Has.{Has, named}
-use Rattle.rows.proofs.Having.{has-at}
 
 -- names of other lengths are others
 pub same-long : (x y : Name) → (length x ≡ length y → ⊥) → same x y ≡ false

@@ -1,11 +1,11 @@
 -- A token's row: its tag, its numbers, its name.
-use Rattle.std.proofs.Common.{◌≡◌, ℕ, suc, ◌+◌, ◌/◌, ◌%◌, ◌<◌, ◌≤◌, min, Bool, true, false, List, [], ◌∷◌, ◌++◌, length, get_or, sym, refl, ap, ◌∙◌, arith, length-append}
+use Rattle.std.proofs.Common.{◌≡◌, ℕ, ◌+◌, ◌/◌, ◌%◌, ◌<◌, min, Bool, true, false, List, [], ◌∷◌, ◌++◌, length, get_or, sym, refl, ap, ◌∙◌, arith, length-append}
 use mathlib.Core.Option.{Option, some, none}
 use Rattle.language.specs.Syntax.{Name}
 use Rattle.rows.specs.Has.{Has, named}
 use Rattle.rows.specs.NodeTags.{lead, has_name}
 use Rattle.rows.specs.Nodes.{Node, node_row, n_num, n_var, n_bin, n_and, n_or, n_join, n_un, n_idx, n_len, n_call, n_by, n_in, n_set, n_store, n_ex, n_out, n_if, n_else, n_fi, n_loop, n_while, n_again, n_ret, n_break, n_next, n_end, n_arg}
-use Rattle.rows.proofs.Having.{has_word, has_left, has_right, has_to, has_as}
+use Rattle.rows.proofs.Having.{has_word, has_right, has_to, has_as}
 
 tag : Node → ℕ
 tag (n_num n) = 0

@@ -1,8 +1,7 @@
 -- The row of a tree is the row of its nodes.
 use Rattle.std.proofs.Common.{◌≡◌, ℕ, Bool, true, false, List, [], ◌∷◌, ◌++◌, sym, refl, ap, ◌∙◌, append_assoc}
-use Rattle.language.specs.Syntax.{pick, Name, Expr, num, var, bin, un, and1, or1, idx, len, call, by_table, input, Exprs, no, and_then, Stmt, set1, store1, ex1, out1, if1, while1, ret1, break1, next1, Block, end, seq1, Fn}
-use Rattle.rows.specs.Has.{named}
-use Rattle.rows.specs.Nodes.{Node, n_num, n_bin, n_and, n_or, n_join, n_un, n_idx, n_call, n_by, n_set, n_store, n_ex, n_out, n_if, n_else, n_fi, n_while, n_again, n_ret, n_end, count, num_row, node_row, nodes_row, nodes_e, nodes_es, nodes_s, nodes_bs, nodes_b, expr_row, args_row, stmt_row, block_row, body_row}
+use Rattle.language.specs.Syntax.{Expr, num, var, bin, un, and1, or1, idx, len, call, by_table, input, Exprs, no, and_then, Stmt, set1, store1, ex1, out1, if1, while1, ret1, break1, next1, Block, end, seq1}
+use Rattle.rows.specs.Nodes.{Node, n_bin, n_and, n_or, n_join, n_un, n_idx, n_call, n_by, n_set, n_store, n_ex, n_out, n_if, n_else, n_fi, n_while, n_again, n_ret, n_end, count, nodes_row, nodes_e, nodes_es, nodes_s, nodes_bs, expr_row, args_row, stmt_row, block_row}
 use Rattle.rows.specs.Trees.{BodiesNodes}
 
 -- behind the row r stands l, which is another row

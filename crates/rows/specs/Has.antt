@@ -1,5 +1,5 @@
 -- What stands in a row of words, from a place on.
-use Rattle.std.specs.Prelude.{◌≡◌, ℕ, ◌+◌, ◌≤◌, List, [], ◌∷◌, ◌++◌, length, drop}
+use Rattle.std.specs.Prelude.{◌≡◌, ℕ, ◌+◌, ◌≤◌, List, ◌∷◌, ◌++◌, length, drop}
 use Rattle.language.specs.Syntax.{Name}
 
 -- the words ws stand in w, from place i on, and rest behind them

@@ -1,5 +1,5 @@
 -- How long a node's row is, by its tag: the words before a name, and whether there is a name.
-use Rattle.std.specs.Prelude.{ℕ, Bool, true, false, ◌||◌, ◌==◌}
+use Rattle.std.specs.Prelude.{ℕ, Bool, ◌||◌, ◌==◌}
 use Rattle.language.specs.Syntax.{pick}
 
 abbrev pub lead : ℕ → ℕ

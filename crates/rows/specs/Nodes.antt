@@ -1,6 +1,6 @@
 -- A body as a row of nodes, each behind its parts. A name that is an argument by itself has a node of its own: it may be an array,
 -- and a word must stand where arguments stand. Each node is a tag and what belongs to it.
-use Rattle.std.specs.Prelude.{ℕ, suc, ◌/◌, ◌%◌, Bool, true, false, List, [], ◌∷◌, ◌++◌, length}
+use Rattle.std.specs.Prelude.{ℕ, suc, ◌/◌, ◌%◌, Bool, true, false, List, [], ◌∷◌, ◌++◌}
 use Rattle.language.specs.Syntax.{pick, Name, Expr, num, var, bin, un, and1, or1, idx, len, call, by_table, input, Exprs, no, and_then, Stmt, set1, store1, ex1, out1, if1, while1, ret1, break1, next1, Block, end, seq1}
 use Rattle.language.specs.Words.{all}
 use Rattle.rows.specs.Has.{named}

@@ -1,6 +1,6 @@
 -- A program as a row of words, a function of its tree; nothing in it refers to the text. A name is its length and its bytes. An item is its kind's
 -- number, how many words it has more, its name and the rest, so that it is passed over in one step: the row is its own table.
-use Rattle.std.specs.Prelude.{◌≡◌, ℕ, Bool, true, false, List, [], ◌∷◌, ◌++◌, length}
+use Rattle.std.specs.Prelude.{◌≡◌, ℕ, true, false, List, [], ◌∷◌, ◌++◌, length}
 use Rattle.language.specs.Syntax.{Name, Kind, k_word, k_arr, Param, Arr, Fn, Item, i_word, i_arr, i_data, i_table, i_fn, i_use, File, Prog}
 use Rattle.language.specs.Words.{bit}
 use Rattle.rows.specs.Has.{named}

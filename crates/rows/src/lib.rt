@@ -1,4 +1,6 @@
 // Rows of lent words, and programs as rows: what the parser writes and the checks read.
+#![tactic(auto)]
+
 ghost use Rattle.rows.specs.Trees.{BodiesNodes};
 
 mod put;

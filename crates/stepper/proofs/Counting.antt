@@ -1,12 +1,11 @@
 -- Nodes and what they count: three words are the node that they were made from; how many values and steps a node can add.
-use Rattle.std.proofs.Common.{◌≡◌, ℕ, zero, suc, ◌+◌, ◌-◌, ◌<◌, ◌≤◌, min, max, Bool, true, false, List, [], ◌∷◌, ◌++◌, length, get_or, sym, refl, ap, ◌∙◌, subst, arith, length-append}
+use Rattle.std.proofs.Common.{◌≡◌, ℕ, zero, suc, ◌+◌, ◌≤◌, max, true, List, [], ◌∷◌, length, get_or, refl, ap, ◌∙◌, arith, length-append}
 use mathlib.Core.Bool.{false≢true}
 use Rattle.rows.specs.Has.{Has}
 use Rattle.rows.proofs.Having.{has-at}
-use Rattle.steps.specs.Steps.{Step, s_num, s_copy, s_bin, s_un, s_flag, s_getw, s_setw, s_jump, s_jz, s_call, s_table, s_out, s_ret, s_in, s_idx, s_put, s_len}
 use Rattle.generator.specs.Resolved.{Resolved, v_num, v_own, v_copy, v_get, v_arr, v_bin, v_un, v_and, v_or, v_join, v_idx, v_len, v_call, v_by, v_in, v_set, v_setw, v_clear, v_store, v_ex, v_out, v_if, v_else, v_fi, v_loop, v_while, v_again, v_ret, v_break, v_next, v_end}
 use Rattle.generator.specs.ResolvedRows.{node_words}
-use Rattle.generator.specs.Emit.{Entry, e_temp, e_own, e_arr, above, under, top, below, place_of, words_in, arrays_in, settled, target_at, aim_at, Marks, emit}
+use Rattle.generator.specs.Emit.{Entry, e_temp, e_own, e_arr, above, under, top, below, Marks, emit}
 use Rattle.generator.specs.Peak.{piled, peak}
 use Rattle.generator.specs.Core.{core}
 use Rattle.stepper.specs.declared.node.Node.{Node}

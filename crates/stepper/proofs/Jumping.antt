@@ -1,15 +1,15 @@
 -- What each node's code does is what the fold does: jumps.
-use Rattle.std.proofs.Common.{◌≡◌, ℕ, zero, suc, ◌+◌, ◌-◌, ◌*◌, ◌<◌, ◌≤◌, min, List, [], ◌∷◌, ◌++◌, length, sym, refl, ap, ◌∙◌, subst, ap₂, append_assoc, arith, length-append}
+use Rattle.std.proofs.Common.{◌≡◌, ℕ, ◌+◌, ◌-◌, ◌*◌, ◌≤◌, min, List, [], ◌∷◌, ◌++◌, length, sym, ap, ◌∙◌, subst, append_assoc, arith, length-append}
 use Rattle.rows.specs.declared.row.Row.{Row}
 use Rattle.steps.specs.Steps.{Step, s_num, s_jump, s_ret}
 use Rattle.generator.specs.Resolved.{v_else, v_fi, v_loop, v_again, v_break, v_next, v_end}
-use Rattle.generator.specs.Emit.{above, Marks, marks, leaves, target_at, aim_at, emit}
+use Rattle.generator.specs.Emit.{above, target_at, aim_at}
 use Rattle.generator.specs.StepRows.{step_words}
 use Rattle.stepper.specs.declared.point.Point.{Point}
-use Rattle.stepper.specs.Stands.{Room, Holds, Stands, Small, Lent, Stepped, Landed, Turned}
+use Rattle.stepper.specs.Stands.{Room, Holds, Stepped, Landed, Turned}
 use Rattle.stepper.specs.Swapped.{Swapped}
 use Rattle.stepper.proofs.Targets.{aim-long}
-use Rattle.stepper.proofs.Standing.{stands-step, stands-marks, stands-steps, stands_swap, stands-was, place_is, room-less, holds-room, lent-step, lent-more, lent_none}
+use Rattle.stepper.proofs.Standing.{stands-step, stands-marks, stands-steps, stands_swap, stands-was, place_is, room-less, holds-room, lent-step, lent-more}
 use Rattle.stepper.proofs.Testing.{marked}
 
 room_aimed : (o : Row) (xs : List Step) (i u : ℕ) → Room o (aim_at xs i u) → Room o xs

@@ -1,7 +1,6 @@
 -- The loop over a function's nodes.
-use Rattle.std.proofs.Common.{◌≡◌, ℕ, zero, suc, ◌+◌, ◌-◌, ◌*◌, ◌<◌, ◌≤◌, min, max, true, List, [], ◌∷◌, ◌++◌, length, sym, refl, ap, ◌∙◌, subst, arith, length-append}
+use Rattle.std.proofs.Common.{◌≡◌, ℕ, ◌+◌, ◌*◌, ◌<◌, ◌≤◌, min, max, true, List, [], ◌∷◌, length, sym, refl, ap, ◌∙◌, subst, arith, length-append}
 use Rattle.rows.specs.declared.row.Row.{Row}
-use Rattle.rows.specs.Row.{Wrote, Pushed}
 use Rattle.rows.specs.Has.{Has}
 use Rattle.rows.specs.Trees.{list_row}
 use Rattle.rows.proofs.Writing.{wrote_none}
@@ -9,14 +8,13 @@ use Rattle.rows.proofs.Having.{has_left, has_right, has_to}
 use Rattle.steps.specs.Fits.{Each}
 use Rattle.generator.specs.Resolved.{Resolved}
 use Rattle.generator.specs.ResolvedRows.{node_words}
-use Rattle.generator.specs.StepRows.{step_words}
 use Rattle.generator.specs.Emit.{Entry, Marks, marks, above, emit, run}
 use Rattle.generator.specs.Peak.{piled, peak}
 use Rattle.generator.specs.Core.{core}
 use Rattle.stepper.specs.declared.node.Node.{Node}
 use Rattle.stepper.specs.declared.point.Point.{Point}
 use Rattle.stepper.specs.Nodes.{meant, counted}
-use Rattle.stepper.specs.Stands.{Stands, Small, Lent, Turned}
+use Rattle.stepper.specs.Stands.{Stands, Lent, Turned}
 use Rattle.stepper.specs.Bodies.{Fit, BodyIs}
 use Rattle.stepper.proofs.Targets.{steps-long}
 use Rattle.stepper.proofs.Counting.{node-long, Words, words-above, words-piled, piled-long, piled-deep, emit-few, peak-high}

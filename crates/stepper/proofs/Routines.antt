@@ -1,5 +1,5 @@
 -- A function's row: its head, its steps, and the two words that are known at its end.
-use Rattle.std.proofs.Common.{◌≡◌, ℕ, zero, suc, ◌+◌, ◌-◌, ◌*◌, ◌<◌, ◌≤◌, min, List, [], ◌∷◌, ◌++◌, length, get_or, drop, sym, refl, ap, ◌∙◌, subst, ap₂, append_assoc, append-nil, arith, length-append}
+use Rattle.std.proofs.Common.{◌≡◌, ℕ, ◌+◌, ◌*◌, ◌<◌, ◌≤◌, min, List, [], ◌∷◌, ◌++◌, length, get_or, drop, sym, refl, ap, ◌∙◌, subst, append_assoc, append-nil, arith, length-append}
 use Rattle.rows.specs.declared.row.Row.{Row}
 use Rattle.rows.specs.Row.{Wrote, Pushed}
 use Rattle.rows.specs.Has.{Has}
@@ -10,11 +10,9 @@ use Rattle.steps.specs.Steps.{Shape}
 use Rattle.steps.specs.Fits.{Each}
 use Rattle.generator.specs.ResolvedRows.{Routine, node_words, shape_words, routine_words, table_words, ResolvedProg, resolved_words}
 use Rattle.generator.specs.StepRows.{step_words, fn_words, base_of, made}
-use Rattle.generator.specs.Emit.{marks, run}
 use Rattle.generator.specs.Peak.{peak}
 use Rattle.generator.specs.Core.{CoreRoutine}
-use Rattle.stepper.specs.Stands.{Lent}
-use Rattle.stepper.specs.Bodies.{Fit, BodyIs, BodyDone, Filled, Good, RoutineIs, RoutineDone}
+use Rattle.stepper.specs.Bodies.{BodyDone, Filled, Good, RoutineIs, RoutineDone}
 use Rattle.stepper.proofs.Targets.{wrote-put}
 use Rattle.stepper.proofs.Looping.{nodes-long}
 

@@ -1,14 +1,14 @@
 -- How what the code holds goes on: a step more, a value more or less on the pile, another mark, another target.
-use Rattle.std.proofs.Common.{◌≡◌, ℕ, zero, suc, ◌+◌, ◌-◌, ◌*◌, ◌<◌, ◌≤◌, min, ◌≢◌, List, [], ◌∷◌, ◌++◌, length, get_or, set, sym, refl, ap, ◌∙◌, subst, ap₂, append_assoc, append-nil, arith, length-append, length-set, get_or-set_other, get_or-set_same}
+use Rattle.std.proofs.Common.{◌≡◌, ℕ, zero, suc, ◌+◌, ◌-◌, ◌*◌, ◌<◌, ◌≤◌, min, ◌≢◌, List, [], ◌∷◌, ◌++◌, length, get_or, set, sym, refl, ap, ◌∙◌, subst, append_assoc, append-nil, arith, length-append, length-set, get_or-set_other, get_or-set_same}
 use Rattle.rows.specs.declared.row.Row.{Row}
 use Rattle.rows.specs.Row.{Wrote, Pushed}
 use Rattle.rows.specs.Trees.{list_row}
 use Rattle.rows.proofs.Writing.{wrote-more}
 use Rattle.steps.specs.Steps.{Step}
-use Rattle.generator.specs.Emit.{Entry, e_temp, e_own, e_arr, above, under, top, below, words_in, Marks, marks, leaves, target_at, aim_at}
+use Rattle.generator.specs.Emit.{Entry, e_temp, e_own, e_arr, above, under, below, words_in, Marks, marks, leaves, target_at, aim_at}
 use Rattle.generator.specs.StepRows.{step_words}
 use Rattle.stepper.specs.declared.point.Point.{Point}
-use Rattle.stepper.specs.Stands.{Waits, Placed, Room, Holds, Stands, Small, Lent, Put, Stepped}
+use Rattle.stepper.specs.Stands.{Waits, Placed, Room, Holds, Stands, Lent, Put, Stepped}
 use Rattle.stepper.specs.Swapped.{Swapped}
 use Rattle.stepper.proofs.Targets.{steps-long, aim-long}
 

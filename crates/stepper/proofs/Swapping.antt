@@ -1,12 +1,10 @@
 -- The three ways of giving a jump another target: there is no such step, it is no jump, it is one.
-use Rattle.std.proofs.Common.{◌≡◌, ℕ, suc, ◌+◌, ◌-◌, ◌*◌, ◌<◌, ◌≤◌, min, ◌⊎◌, List, length, get_or, sym, refl, ap, ◌∙◌, subst, inl, inr, arith}
+use Rattle.std.proofs.Common.{◌≡◌, ℕ, suc, ◌+◌, ◌-◌, ◌*◌, ◌<◌, ◌≤◌, min, ◌⊎◌, List, length, get_or, sym, refl, ◌∙◌, subst, arith}
 use Rattle.rows.specs.declared.row.Row.{Row}
 use Rattle.rows.specs.Row.{Wrote, Patched}
 use Rattle.rows.specs.Trees.{list_row}
 use Rattle.steps.specs.Steps.{Step}
-use Rattle.generator.specs.Emit.{target_at, aim_at}
 use Rattle.generator.specs.StepRows.{step_words}
-use Rattle.stepper.specs.Stands.{Lent}
 use Rattle.stepper.specs.Swapped.{Swapped}
 use Rattle.stepper.proofs.Targets.{steps-long, far, far-is, row-was, row_is, plain-was, plain-is, past-was, past_is, word_at, wrote-put}
 

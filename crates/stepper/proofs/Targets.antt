@@ -1,5 +1,5 @@
 -- Targets of jumps in a row of steps: what stands at a step's third word is its target, and another word there is another target.
-use Rattle.std.proofs.Common.{◌≡◌, ℕ, zero, suc, ◌+◌, ◌-◌, ◌*◌, ◌<◌, ◌≤◌, min, ◌⊎◌, List, [], ◌∷◌, ◌++◌, length, get_or, take, set, sym, refl, ap, ◌∙◌, subst, inl, inr, arith, length-append, get_or-take}
+use Rattle.std.proofs.Common.{◌≡◌, ℕ, zero, suc, ◌+◌, ◌*◌, ◌<◌, ◌≤◌, ◌⊎◌, List, [], ◌∷◌, ◌++◌, length, get_or, set, sym, refl, ap, ◌∙◌, subst, inl, inr, arith, get_or-take}
 use Rattle.std.proofs.lemmas.List.{length-take-le, get_or-append-add}
 use Rattle.language.specs.Syntax.{put}
 use Rattle.rows.specs.declared.row.Row.{Row}

@@ -1,13 +1,12 @@
 -- What each node's code does is what the fold does: nodes that use up the value on top.
-use Rattle.std.proofs.Common.{◌≡◌, ℕ, zero, suc, ◌+◌, ◌-◌, ◌*◌, ◌<◌, ◌≤◌, min, true, List, [], ◌∷◌, ◌++◌, length, sym, refl, ap, ◌∙◌, subst, ap₂, append_assoc, arith, length-append}
+use Rattle.std.proofs.Common.{◌≡◌, ℕ, ◌+◌, ◌-◌, ◌<◌, ◌≤◌, min, List, [], ◌∷◌, ◌++◌, length, sym, refl, ap, ◌∙◌, subst, ap₂, append_assoc, arith, length-append}
 use Rattle.rows.specs.declared.row.Row.{Row}
-use Rattle.steps.specs.Steps.{Step, s_num, s_copy, s_flag, s_jump, s_jz, s_out, s_ret}
+use Rattle.steps.specs.Steps.{Step, s_num, s_copy, s_flag, s_jump, s_jz}
 use Rattle.generator.specs.Resolved.{Resolved, v_and, v_if, v_or, v_join, v_while, v_ex}
 use Rattle.generator.specs.Emit.{Entry, e_temp, e_own, e_arr, above, under, top, place_of, Marks, marks, leaves, settled, emit}
 use Rattle.generator.specs.StepRows.{step_words}
-use Rattle.generator.specs.Core.{core}
 use Rattle.stepper.specs.declared.point.Point.{Point}
-use Rattle.stepper.specs.Stands.{Waits, Placed, Holds, Stands, Small, Lent, Put, Stepped, Made, Goes, Turned, Landed, taken}
+use Rattle.stepper.specs.Stands.{Placed, Stands, Small, Stepped, Made, Goes, Turned, Landed, taken}
 use Rattle.stepper.proofs.Standing.{placed-under, placed-above, under-long, stands-step, stands-below, stands-marks, stands-steps, place_is, lent-step, lent-more, lent_none}
 use Rattle.stepper.proofs.Turning.{Value, value-is, lowered}
 

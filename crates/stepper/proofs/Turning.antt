@@ -1,16 +1,15 @@
 -- What each node's code does is what the fold does: values.
-use Rattle.std.proofs.Common.{◌≡◌, ℕ, zero, suc, ◌+◌, ◌-◌, ◌*◌, ◌<◌, ◌≤◌, min, true, ltb, List, [], ◌∷◌, ◌++◌, length, sym, refl, ap, ◌∙◌, subst, ap₂, append_assoc, arith, length-append, ltb-true}
+use Rattle.std.proofs.Common.{◌≡◌, ℕ, suc, ◌+◌, ◌-◌, ◌≤◌, min, List, [], length, sym, refl, ap, subst, arith, ltb-true}
 use Rattle.rows.specs.declared.row.Row.{Row}
-use Rattle.steps.specs.Steps.{Step, s_num, s_copy, s_bin, s_un, s_call}
+use Rattle.steps.specs.Steps.{Step, s_bin, s_un, s_call}
 use Rattle.generator.specs.Resolved.{Resolved, v_own, v_bin, v_un, v_call}
-use Rattle.generator.specs.Emit.{Entry, e_temp, e_own, e_arr, above, under, top, below, place_of, words_in, arrays_in, Marks, marks, makes, emit}
+use Rattle.generator.specs.Emit.{Entry, e_temp, e_own, above, under, top, below, place_of, words_in, arrays_in, Marks, marks, makes, emit}
 use Rattle.generator.specs.StepRows.{step_words}
-use Rattle.generator.specs.Core.{core}
 use Rattle.stepper.specs.declared.point.Point.{Point}
 use Rattle.stepper.specs.declared.node.Node.{Node}
 use Rattle.stepper.specs.Nodes.{meant}
-use Rattle.stepper.specs.Stands.{Waits, Placed, Holds, Stands, Small, Lent, Put, Stepped, Made, Turned}
-use Rattle.stepper.proofs.Standing.{placed-under, placed-words, placed-above, under-long, below-long, stands-step, stands-put, stands-below, place_is, lent-step, lent-more, lent_none}
+use Rattle.stepper.specs.Stands.{Placed, Stands, Put, Stepped, Made, Turned}
+use Rattle.stepper.proofs.Standing.{placed-under, placed-words, placed-above, under-long, below-long, stands-step, stands-put, stands-below, place_is, lent-step, lent_none}
 
 -- what the code that looks at the pile's top ensures
 abbrev pub Value : List ℕ → ℕ → ℕ → ℕ → ℕ → Type 0

@@ -1,4 +1,6 @@
 // Steps of a resolved program's functions: one loop from left to right over a function's nodes that writes its steps into lent words.
+#![tactic(auto)]
+
 ghost use Rattle.std.specs.Prelude.{◌≡◌, ℕ, ◌+◌, ◌<◌, ◌≤◌, List, [], length};
 ghost use Rattle.rows.specs.Row.{Pushed};
 ghost use Rattle.rows.specs.Trees.{list_row};

@@ -1,17 +1,16 @@
 -- A call's body; all forms together.
-use Rattle.std.proofs.Common.{◌≡◌, ℕ, zero, suc, ◌+◌, ◌-◌, ◌*◌, ◌<◌, ◌≤◌, Bool, true, false, not, List, [], ◌∷◌, ◌++◌, length, take, replicate, sym, refl, ap, ◌∙◌, subst, append-nil, add-zero, zero-add, arith, length-append}
+use Rattle.std.proofs.Common.{◌≡◌, ℕ, zero, suc, ◌+◌, ◌-◌, false, List, [], ◌∷◌, ◌++◌, length, take, sym, refl, ap, ◌∙◌, zero-add, arith, length-append}
 use mathlib.Core.Bool.{false≢true}
-use mathlib.Core.Option.{Option, some, none}
-use Rattle.language.specs.Syntax.{pick, opt, nth, put, Name, Expr, num, var, bin, un, and1, or1, idx, len, call, by_table, input, Exprs, no, and_then, Stmt, set1, store1, ex1, out1, if1, while1, ret1, break1, next1, Block, end, seq1, Kind, k_word, k_arr, Param, Arr, Fn}
-use Rattle.language.specs.Meaning.{on_end, back, enter, cost, bind_params, bind_vars, bind_arrs, new_arrs, State, Result, val, vals, fine, broke, goes_on, gives, trap, spent, Value, word, t_e, t_es, t_s, t_b, t_call, run}
-use Rattle.steps.specs.Steps.{Step, s_num, s_ret, Act, upto, MFn, MProg, Places, upd, Saved, entry}
-use Rattle.steps.specs.Generate.{Scope, words_of, shapes_of, slots_of, size_b, gen_b, gen_body}
-use Rattle.steps.proofs.Outcome.{At, at_left, at_right, Cfg, mk, Out, done, spentd, less, bind, Passes}
+use Rattle.language.specs.Syntax.{nth, num, var, bin, un, and1, or1, idx, len, call, by_table, input, no, and_then, set1, store1, ex1, out1, if1, while1, ret1, break1, next1, end, seq1, k_word, k_arr, Fn}
+use Rattle.language.specs.Meaning.{on_end, back, enter, cost, new_arrs, State, Result, Value, t_call, run}
+use Rattle.steps.specs.Steps.{Saved, entry}
+use Rattle.steps.specs.Generate.{words_of, size_b}
+use Rattle.steps.proofs.Outcome.{Cfg, mk, Out, done, spentd, less, bind}
 use Rattle.steps.proofs.Rules.{r_num, r_ret}
-use Rattle.steps.proofs.Variables.{Vars, Keeps, upd_same, upd_other, wides, wides_++, wides-take, wides-length, take-front, nth_left, nums, arrs_of, kinds, names_at, shapes-length}
-use Rattle.steps.proofs.Match.{Env, Fun, w_b, WfB, Pre, Stays, QC, q_call, QS, q_fine, q_broke, q_next, q_gives, Sim, SimE, SimEs, SimS, SimB, SimC, Linked, Compiled, Called}
+use Rattle.steps.proofs.Variables.{upd_same, wides, wides_++, wides-take, wides-length, take-front, nth_left, nums, names_at, shapes-length}
+use Rattle.steps.proofs.Match.{Env, Fun, w_b, Pre, Stays, QC, q_call, QS, q_fine, q_broke, q_next, q_gives, Sim, SimE, SimEs, SimS, SimB, Linked, Called}
 use Rattle.steps.proofs.Expressions.{sim_num, sim_var, sim_bin, sim_un, sim_and, sim_or, sim_call, sim_table, sim_in, sim_idx, sim_len, sim_no, sim_word_arg, sim_arr_arg}
-use Rattle.steps.proofs.Statements.{sim_set, sim_store, sim_ex, sim_out, sim_if, sim_while, sim_head, sim_ret, sim_break, sim_next, sim_end, sim_seq, len_b, behind_b, front_b}
+use Rattle.steps.proofs.Statements.{sim_set, sim_store, sim_ex, sim_out, sim_if, sim_while, sim_head, sim_ret, sim_break, sim_next, sim_end, sim_seq, behind_b, front_b}
 
 module _ (v : Env) (n : ℕ) (ih : Sim v n) (c : Fun) (g : Fn) (vs : List Value) (fr : Saved) (st : List Saved) (s : State) (cm : Called v g c vs s) where
   pub sim_body : Out v.P v.W (QC fr st s) (suc n - suc (w_b g.body)) (mk c.j 0 (entry c.G (nums vs)) (fr ∷ st) (enter g vs s)) (run v.p (suc n) c.file (t_call g vs) s)

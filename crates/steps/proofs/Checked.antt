@@ -1,18 +1,18 @@
 -- What the checks give: no program comes to where nothing is meant, and its steps are linked.
-use Rattle.std.proofs.Common.{◌≡◌, ℕ, zero, suc, ◌+◌, ◌-◌, ◌*◌, ◌<◌, ◌≤◌, Bool, true, false, not, ◌&&◌, ◌||◌, T, eqb, ltb, leb, ◌⊎◌, List, [], ◌∷◌, ◌++◌, length, sym, refl, ap, ◌∙◌, subst, ap₂, inl, inr, append_assoc, zero-add, arith, ltb→lt, length-append, eq-eqb, eqb-true}
+use Rattle.std.proofs.Common.{◌≡◌, ℕ, zero, suc, ◌+◌, ◌<◌, ◌≤◌, Bool, true, false, ◌&&◌, ◌||◌, T, eqb, leb, List, [], ◌∷◌, ◌++◌, length, sym, refl, ap, ◌∙◌, subst, ap₂, append_assoc, arith, ltb→lt, length-append}
 use mathlib.Core.Bool.{false≢true}
 use mathlib.Core.Option.{Option, some, none}
 use Rattle.std.proofs.lemmas.Bool.Decides.{nat_tests}
-use Rattle.language.specs.Syntax.{pick, opt, nth, Name, same, listed, Expr, num, var, bin, un, and1, or1, idx, len, call, by_table, input, Exprs, no as no-more-es, and_then, Stmt, set1, store1, ex1, out1, if1, while1, ret1, break1, next1, Block, end, seq1, Kind, k_word, k_arr, Param, Arr, Fn, Item, i_word, i_arr, i_data, i_table, i_fn, i_use, File, Prog}
-use Rattle.language.specs.Meaning.{Result, wrong, means, on_some, or_else, Is, is_word, is_arr, is_table, is_fn, Top, tops, words_in, arrays_in, all_tops, all_words, top_of, used_in, items_of, resolve, as_word, as_arr, as_fn, as_table, all_arrays, cost, first_file, w_main}
-use Rattle.language.specs.Checks.{same_k, kind_is, in_params, in_arrs, kind_of, is_kind, any_arr, names_arr, names_in, fits_arg, first_k, rest_k, no_more, fn_named, is_local, params_of, head_fn, params_of_table, same_ps, alike, ok_e, ok_es, ok_s, ok_b, ok_fn, ok_item, ok_is, ok_fs, ok, has_main, param_names, once, sizes, arr_names, file_names, totals}
+use Rattle.language.specs.Syntax.{pick, opt, nth, Name, same, listed, Expr, num, var, bin, un, and1, or1, idx, len, call, by_table, input, Exprs, no as no-more-es, and_then, Stmt, set1, store1, ex1, out1, if1, while1, ret1, break1, next1, Block, end, seq1, Kind, k_word, k_arr, Param, Arr, Fn, Item, i_word, i_arr, i_data, i_table, i_fn, i_use, Prog}
+use Rattle.language.specs.Meaning.{on_some, or_else, Is, is_word, is_arr, is_table, is_fn, Top, tops, words_in, arrays_in, all_tops, all_words, top_of, used_in, items_of, resolve, as_word, as_arr, as_fn, as_table, all_arrays, first_file, w_main}
+use Rattle.language.specs.Checks.{same_k, kind_is, in_params, in_arrs, kind_of, is_kind, any_arr, names_arr, names_in, fits_arg, no_more, fn_named, is_local, params_of, head_fn, params_of_table, same_ps, alike, ok_e, ok_es, ok_s, ok_b, ok_fn, ok_item, ok_is, ok_fs, ok, has_main, param_names, once, sizes, arr_names, file_names, totals}
 use Rattle.steps.specs.Steps.{Opnd, Step, s_ret, Act, MFn, MProg, MSt}
-use Rattle.steps.specs.Generate.{Scope, Slot, Ref, r_word, r_arr, find, slot_of, arr_slots, var_slots, slots_from, slots_of, is_wide, gen_arr, arr_arg, gen_e, gen_body, sorted, pos, number, fn_no, fn_nos, scope, gen_fn, boot, gen_prog}
-use Rattle.steps.proofs.Outcome.{At, at_left}
-use Rattle.steps.proofs.Variables.{none-some, some_inj, same_true, pick2, wides, wides_++, wides-length, nth_at, snoc_length, kinds}
-use Rattle.steps.proofs.Match.{Env, Fun, w_e, w_b, WfVar, WfArr, own, top, own_arr, top_arr, Calls, Tables, WfE, WfEs, WfS, WfB, Compiled, Linked}
+use Rattle.steps.specs.Generate.{Ref, r_word, r_arr, find, slot_of, arr_slots, var_slots, slots_from, slots_of, gen_arr, arr_arg, sorted, pos, number, fn_no, fn_nos, scope, gen_fn, boot, gen_prog}
+use Rattle.steps.proofs.Outcome.{At}
+use Rattle.steps.proofs.Variables.{none-some, some_inj, pick2, wides, wides_++, wides-length, nth_at, snoc_length, kinds}
+use Rattle.steps.proofs.Match.{Env, Fun, w_b, WfVar, WfArr, own, top, own_arr, top_arr, Calls, Tables, WfE, WfEs, WfS, WfB, Linked}
 use Rattle.steps.specs.Correct.{MidRight, MidAlwaysRight}
-use Rattle.steps.proofs.WholeProgram.{Boot, Ends, comes, mid_right}
+use Rattle.steps.proofs.WholeProgram.{Boot, mid_right}
 
 pub and-true : (a b : Bool) → (a && b) ≡ true → (a ≡ true) × (b ≡ true)
 and-true true b e = (refl, e)

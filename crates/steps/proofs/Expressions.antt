@@ -1,15 +1,15 @@
 -- Expressions, form by form.
-use Rattle.std.proofs.Common.{◌≡◌, ℕ, zero, suc, ◌+◌, ◌-◌, ◌*◌, ◌<◌, ◌≤◌, Bool, true, false, not, eqb, List, [], ◌∷◌, ◌++◌, length, sym, refl, ap, ◌∙◌, subst, append_assoc, append-nil, add-zero, zero-add, arith, length-append, eqb-true}
+use Rattle.std.proofs.Common.{◌≡◌, ℕ, zero, suc, ◌+◌, ◌-◌, ◌<◌, ◌≤◌, Bool, true, false, not, eqb, List, [], ◌∷◌, ◌++◌, length, sym, refl, ap, ◌∙◌, subst, append_assoc, append-nil, add-zero, arith, length-append, eqb-true}
 use mathlib.Core.Option.{Option, some, none}
-use Rattle.language.specs.Syntax.{pick, opt, nth, put, Name, Expr, num, var, bin, un, and1, or1, idx, len, call, by_table, input, Exprs, no, and_then, Kind, k_word, k_arr, Fn}
+use Rattle.language.specs.Syntax.{pick, opt, nth, Name, Expr, num, var, bin, un, and1, or1, idx, len, call, by_table, input, Exprs, no, and_then, Kind, k_word, k_arr, Fn}
 use Rattle.language.specs.Words.{bit}
-use Rattle.language.specs.Meaning.{Cells, reads_from, on_some, on_val, calls, new_arrs, arr_of, get_var, get_arr, State, Result, val, vals, trap, spent, Value, word, array, Top, resolve, as_word, as_fn, as_table, either, with_word, div0, binary, single, Task, t_e, t_es, t_call, run}
-use Rattle.steps.specs.Steps.{Step, s_num, s_copy, s_bin, s_un, s_flag, s_getw, s_jump, s_jz, s_call, s_table, s_idx, Opnd, args, arr_at, arrs_at, upto, Act, MFn, MProg, Places, upd, Saved}
-use Rattle.steps.specs.Generate.{Scope, find, Ref, r_word, r_arr, ref_word, own_at, at_place, unless, size_v, gen_v, gen_arr, wide_of, the_arr, arr_arg, opnds, count, size_e, size_es, gen_e, gen_es}
-use Rattle.steps.proofs.Outcome.{At, at_left, at_right, Cfg, mk, Out, done, spentd, less}
+use Rattle.language.specs.Meaning.{Cells, reads_from, on_val, calls, new_arrs, State, Result, val, vals, trap, Value, word, array, Top, resolve, as_fn, either, with_word, div0, binary, single, t_e, t_es, run}
+use Rattle.steps.specs.Steps.{Step, s_bin, s_un, s_table, s_idx, Opnd, args, arrs_at, upto, Places, upd, Saved}
+use Rattle.steps.specs.Generate.{Scope, own_at, at_place, unless, size_v, gen_v, the_arr, arr_arg, opnds, count, size_e, size_es, gen_e, gen_es}
+use Rattle.steps.proofs.Outcome.{At, at_left, at_right, Cfg, mk, Out, spentd, less}
 use Rattle.steps.proofs.Rules.{r_num, r_copy, r_bin, r_bin_trap, r_un, r_flag, r_getw, r_jump, r_jz, r_call, r_table, r_table_trap, r_in, r_in_trap, r_idx, r_idx_trap, r_len}
-use Rattle.steps.proofs.Variables.{Vars, Keeps, find-lt, some_inj, upd_same, upd_other, none-some, var_get, var_none, wides, nums, arrs_of, kinds, HasAll, fresh-new}
-use Rattle.steps.proofs.Match.{Env, Fun, w_e, w_es, WfVar, own, top, WfArr, WfE, WfEs, Calls, Tables, ArrAt, arr-there, cells-there, Called, Pre, pre-on, Stays, stays_refl, stays_trans, QE, q_val, e-done, on_value, Sim, Linked, Compiled, QEs, q_vals, QC, q_call, es-done, on_values, es-then, on_call}
+use Rattle.steps.proofs.Variables.{Keeps, find-lt, some_inj, upd_same, upd_other, none-some, var_get, var_none, wides, nums, arrs_of, kinds, HasAll, fresh-new}
+use Rattle.steps.proofs.Match.{Env, Fun, w_e, w_es, WfVar, own, top, WfArr, WfE, WfEs, ArrAt, arr-there, cells-there, Called, Pre, pre-on, Stays, stays_refl, stays_trans, QE, e-done, on_value, Sim, Linked, QEs, es-done, on_values, es-then, on_call}
 
 len-opt : (o : Option Opnd) (a b : List Step) (m n : ℕ) → length a ≡ m → length b ≡ n → length (opt o a (λ z. b)) ≡ opt o m (λ z. n)
 len-opt none a b m n h g = h

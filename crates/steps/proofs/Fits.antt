@@ -1,15 +1,12 @@
 -- Steps that come of a checked program name only what is there.
-use Rattle.std.proofs.Common.{◌≡◌, ℕ, zero, suc, ◌+◌, ◌-◌, ◌<◌, ◌≤◌, max, Bool, true, false, not, ◌&&◌, T, List, [], ◌∷◌, ◌++◌, length, sym, refl, ap, ◌∙◌, subst, ap₂, arith, lit<, length-append}
-use mathlib.Core.Bool.{false≢true}
+use Rattle.std.proofs.Common.{◌≡◌, ℕ, zero, suc, ◌+◌, ◌<◌, ◌≤◌, max, Bool, true, false, List, [], ◌∷◌, ◌++◌, length, sym, refl, ap, ◌∙◌, arith, lit<}
 use mathlib.Core.Option.{Option, some, none}
-use Rattle.language.specs.Syntax.{pick, opt, nth, Name, same, Expr, num, var, bin, un, and1, or1, idx, len, call, by_table, input, Exprs, no, and_then, Stmt, set1, store1, ex1, out1, if1, while1, ret1, break1, next1, Block, end, seq1, Kind, k_word, k_arr, Param, Arr, Fn, Prog}
-use Rattle.language.specs.Words.{all}
-use Rattle.language.specs.Meaning.{Cells, Top, as_fn}
-use Rattle.steps.specs.Steps.{Opnd, o_top, o_own, Step, s_num, s_ret, Act, MFn, MProg}
+use Rattle.language.specs.Syntax.{pick, opt, nth, Name, same, Expr, num, var, bin, un, and1, or1, idx, len, call, by_table, input, Exprs, no, and_then, Stmt, set1, store1, ex1, out1, if1, while1, ret1, break1, next1, Block, end, seq1, Kind, k_word, k_arr, Param}
+use Rattle.steps.specs.Steps.{Opnd, o_top, o_own, Step}
 use Rattle.steps.specs.Generate.{own_at, at_place, unless, size_v, gen_v, ref_word, Slot, w_slot, a_slot, Ref, r_word, r_arr, find, words_of, arrays_of, slots_from, Scope, gen_arr, the_arr, arr_arg, opnds, count, size_e, size_es, size_s, size_b, need_e, need_es, need_s, need_b, gen_var, gen_set, gen_e, gen_es, gen_s, gen_b}
-use Rattle.steps.specs.Fits.{Each, Small, OpndFits, Takes, StepFits}
-use Rattle.steps.proofs.Variables.{none-some, some_inj, find-lt, wides, wides-nth, kinds}
-use Rattle.steps.proofs.Match.{Env, Fun, WfVar, own, top, WfArr, own_arr, top_arr, Calls, Tables, WfE, WfEs, WfS, WfB, Compiled, Linked}
+use Rattle.steps.specs.Fits.{Each, OpndFits, Takes, StepFits}
+use Rattle.steps.proofs.Variables.{none-some, some_inj, find-lt, wides-nth, kinds}
+use Rattle.steps.proofs.Match.{Env, Fun, WfVar, own, top, WfArr, own_arr, top_arr, Calls, WfE, WfEs, WfS, WfB, Linked}
 
 pub each_++ : {A : Type 0} (P : A → Type 0) (xs ys : List A) → Each P xs → Each P ys → Each P (xs ++ ys)
 each_++ P [] ys h g = g

@@ -1,20 +1,18 @@
 -- A checked program's steps name only what is there, and its numbers are words.
-use Rattle.std.proofs.Common.{◌≡◌, ℕ, zero, suc, ◌+◌, ◌-◌, ◌<◌, ◌≤◌, Bool, true, false, not, ◌&&◌, T, eqb, ltb, leb, List, [], ◌∷◌, ◌++◌, length, replicate, sym, refl, ap, ◌∙◌, subst, ap₂, arith, lit<, ltb→lt, leb→le, length-append}
-use mathlib.Core.Bool.{false≢true}
+use Rattle.std.proofs.Common.{◌≡◌, ℕ, suc, ◌+◌, ◌<◌, ◌≤◌, Bool, true, false, ◌&&◌, T, ltb, leb, List, [], ◌∷◌, length, sym, refl, ap, ◌∙◌, subst, arith, ltb→lt, leb→le, length-append}
 use mathlib.Core.Option.{Option, some, none}
 use lib.ListN.{length-replicate}
-use Rattle.language.specs.Syntax.{pick, opt, nth, Name, call, no as no-more-es, Block, Kind, k_word, k_arr, Param, Arr, Fn, Item, i_word, i_arr, i_data, i_table, i_fn, i_use, File, Prog}
+use Rattle.language.specs.Syntax.{opt, Name, call, no as no-more-es, Kind, k_word, k_arr, Param, Arr, Fn, Item, i_word, i_arr, i_data, i_table, i_fn, i_use, Prog}
 use Rattle.language.specs.Words.{all}
-use Rattle.language.specs.Meaning.{Cells, Is, is_word, is_arr, is_table, is_fn, Top, arrays_in, all_tops, all_words, all_arrays, as_fn, cost, names_of, first_file, w_main}
+use Rattle.language.specs.Meaning.{Top, arrays_in, all_tops, all_arrays, as_fn, names_of, first_file, w_main}
 use Rattle.language.specs.Checks.{ok_fn, ok_item, ok_is, ok_fs, ok, once, sizes, words_ok, names_in, file_names, has_main, total, totals}
-use Rattle.steps.specs.Steps.{Step, s_num, s_ret, Shape, Act, MFn, MProg}
+use Rattle.steps.specs.Steps.{s_ret, Act}
 use Rattle.steps.specs.Generate.{Slot, words_of, arrays_of, slot_of, var_slots, arr_slots, slots_from, slots_of, shapes_of, scope, size_b, need_b, gen_e, gen_b, gen_body, sorted, gen_fn, boot, gen_prog}
-use Rattle.steps.specs.Fits.{Each, Small, StepFits, FnFits, asks, Costs, CellsFit, ProgFits, MidFits, MidSmall}
+use Rattle.steps.specs.Fits.{Each, Small, StepFits, FnFits, asks, Costs, CellsFit, MidFits, MidSmall}
 use Rattle.steps.proofs.Variables.{wides}
-use Rattle.steps.proofs.Match.{Env, Fun, WfB}
+use Rattle.steps.proofs.Match.{Fun}
 use Rattle.steps.proofs.Statements.{len_b}
-use Rattle.steps.proofs.WholeProgram.{Boot}
-use Rattle.steps.proofs.Checked.{and-true, env, AllT, no_top, and_top, Good, TopIs, c, wf_b, body_ok, fn-ok, goods, linked, main_fn}
+use Rattle.steps.proofs.Checked.{and-true, env, AllT, and_top, Good, c, wf_b, body_ok, fn-ok, goods, linked, main_fn}
 use Rattle.steps.proofs.Fits.{each_++, need_pos, fits_e, fits_b}
 use Rattle.steps.proofs.SmallWords.{each_replicate, zero-small, small-run}
 

@@ -1,10 +1,10 @@
 -- What steps have put out, and the marks of calls, stay; where a run has ended it stays.
-use Rattle.std.proofs.Common.{◌≡◌, ℕ, zero, suc, ◌+◌, ◌-◌, ◌≤◌, Bool, true, false, List, [], ◌∷◌, ◌++◌, sym, refl, ap, ◌∙◌, subst, suc-add, zero-add, arith}
+use Rattle.std.proofs.Common.{◌≡◌, ℕ, zero, suc, ◌+◌, Bool, true, false, List, [], ◌∷◌, ◌++◌, refl, suc-add, zero-add}
 use mathlib.Core.Option.{Option, some, none}
 use Rattle.language.specs.Syntax.{pick, opt, nth}
 use Rattle.language.specs.Meaning.{Mark, Cells, div0}
 use Rattle.language.specs.Observe.{Front, none_yet, and_so}
-use Rattle.steps.specs.Steps.{Step, s_num, s_copy, s_bin, s_un, s_flag, s_getw, s_setw, s_jump, s_jz, s_call, s_out, s_ret, s_table, s_in, s_idx, s_put, s_len, Opnd, arr_at, arrs_at, with_array, reads_in, MFn, MProg, Saved, MSt, MNext, m_goes, m_ends, m_traps, m_stuck, args, leaves, exec, m_step, m_then, m_after, m_shown}
+use Rattle.steps.specs.Steps.{Step, s_num, s_copy, s_bin, s_un, s_flag, s_getw, s_setw, s_jump, s_jz, s_call, s_out, s_ret, s_table, s_in, s_idx, s_put, s_len, Opnd, arr_at, arrs_at, with_array, reads_in, MFn, MProg, Saved, MSt, MNext, m_goes, m_ends, m_traps, m_stuck, args, leaves, exec, m_step, m_then, m_after}
 
 pub front_refl : {A : Type 0} (s : List A) → Front s s
 front_refl [] = none_yet

@@ -1,12 +1,12 @@
 -- The statement: what a task means, its steps do.
-use Rattle.std.proofs.Common.{◌≡◌, ℕ, zero, suc, ◌+◌, ◌-◌, ◌*◌, ◌<◌, ◌≤◌, Bool, true, false, not, List, [], ◌∷◌, ◌++◌, length, sym, refl, ap, ◌∙◌, subst, add-zero, arith, length-append}
-use mathlib.Core.Option.{Option, some, none}
-use Rattle.language.specs.Syntax.{pick, opt, nth, put, Name, Expr, num, var, bin, un, and1, or1, idx, len, call, by_table, input, Exprs, no, and_then, Stmt, set1, store1, ex1, out1, if1, while1, ret1, break1, next1, Block, end, seq1, Kind, k_word, k_arr, Param, Arr, Fn, Prog}
-use Rattle.language.specs.Meaning.{on_some, on_val, on_vals, State, Result, val, vals, fine, broke, goes_on, gives, trap, spent, wrong, Value, word, array, Cells, new_arrs, get_var, get_arr, Top, resolve, as_word, as_arr, as_fn, as_table, cost, enter, Task, t_e, t_es, t_s, t_b, t_call, run}
+use Rattle.std.proofs.Common.{◌≡◌, ℕ, suc, ◌+◌, ◌-◌, ◌<◌, ◌≤◌, Bool, true, false, List, [], ◌∷◌, ◌++◌, length, refl, ap, ◌∙◌, arith}
+use mathlib.Core.Option.{some, none}
+use Rattle.language.specs.Syntax.{nth, Name, Expr, num, var, bin, un, and1, or1, idx, len, call, by_table, input, Exprs, no, and_then, Stmt, set1, store1, ex1, out1, if1, while1, ret1, break1, next1, Block, end, seq1, Kind, k_word, k_arr, Fn, Prog}
+use Rattle.language.specs.Meaning.{on_val, on_vals, State, Result, val, vals, fine, broke, goes_on, gives, Value, word, array, Cells, new_arrs, get_var, get_arr, Top, resolve, as_word, as_arr, as_fn, as_table, cost, enter, t_e, t_es, t_s, t_b, t_call, run}
 use Rattle.language.specs.Words.{all}
-use Rattle.steps.specs.Steps.{Opnd, o_top, o_own, Step, s_ret, Act, MFn, MProg, Places, upd, Saved, entry, args, arr_at, arrs_at, upto}
-use Rattle.steps.specs.Generate.{Scope, Slot, Ref, r_word, r_arr, find, words_of, arrays_of, slots_from, slots_of, shapes_of, is_wide, gen_arr, wide_of, the_arr, arr_arg, opnds, count, size_e, size_es, size_s, size_b, gen_e, gen_es, gen_s, gen_b, gen_body}
-use Rattle.steps.proofs.Outcome.{At, Cfg, mk, mst, Out, done, stepd, trapd, spentd, less, Passes, bind}
+use Rattle.steps.specs.Steps.{Opnd, o_top, o_own, s_ret, Act, MFn, MProg, Places, upd, Saved, entry, args, arr_at, arrs_at, upto}
+use Rattle.steps.specs.Generate.{Scope, r_word, r_arr, find, words_of, arrays_of, slots_from, slots_of, shapes_of, is_wide, gen_arr, wide_of, arr_arg, opnds, count, size_e, size_es, size_s, size_b, gen_e, gen_es, gen_s, gen_b, gen_body}
+use Rattle.steps.proofs.Outcome.{At, Cfg, mk, Out, done, bind}
 use Rattle.steps.proofs.Variables.{Vars, Keeps, vars_keep, wides, wides-nth, arr_get, var_none, nums, arrs_of, kinds, HasAll}
 
 -- the program, its steps, and a number above the weight of each function

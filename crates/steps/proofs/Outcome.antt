@@ -1,10 +1,9 @@
 -- What the steps of a task come to, and how such runs are put together.
-use Rattle.std.proofs.Common.{◌≡◌, ℕ, zero, suc, ◌+◌, ◌-◌, ◌*◌, ◌<◌, ◌≤◌, Bool, true, false, not, eqb, List, [], ◌∷◌, ◌++◌, length, sym, refl, ap, ◌∙◌, subst, add-zero, add-suc, suc-add, zero-add, arith}
-use mathlib.Core.Option.{Option, some, none}
-use Rattle.language.specs.Syntax.{pick, opt, nth, put}
-use Rattle.language.specs.Words.{bit}
-use Rattle.language.specs.Meaning.{Mark, State, Result, val, vals, fine, broke, goes_on, gives, trap, spent, wrong, Value, word, div0, binary, single, writes, with_words}
-use Rattle.steps.specs.Steps.{Step, Act, MFn, MProg, Places, upd, Saved, MSt, MNext, m_goes, m_ends, m_traps, m_stuck, args, enters, leaves, exec, m_step, m_then, m_after}
+use Rattle.std.proofs.Common.{◌≡◌, ℕ, suc, ◌+◌, ◌-◌, ◌≤◌, List, [], ◌∷◌, ◌++◌, length, refl, subst, arith}
+use mathlib.Core.Option.{some}
+use Rattle.language.specs.Syntax.{nth}
+use Rattle.language.specs.Meaning.{State, Result, trap, spent}
+use Rattle.steps.specs.Steps.{Step, Act, MProg, Places, Saved, MSt, m_goes, m_traps, m_step}
 
 -- code c has the steps at pc
 abbrev pub At : List Step → ℕ → List Step → Type 0

@@ -1,11 +1,11 @@
 -- A text's brackets bound how many places its functions need.
-use Rattle.std.proofs.Common.{◌≡◌, ℕ, zero, suc, ◌+◌, ◌-◌, ◌*◌, ◌<◌, ◌≤◌, max, Bool, true, false, not, ◌&&◌, ◌||◌, T, eqb, ltb, leb, List, [], ◌∷◌, ◌++◌, length, sym, refl, ap, ◌∙◌, subst, ap₂, append_assoc, arith, leb→le, eqb-true}
+use Rattle.std.proofs.Common.{◌≡◌, ℕ, suc, ◌+◌, ◌-◌, ◌*◌, ◌≤◌, max, Bool, true, false, ◌&&◌, T, eqb, leb, List, [], ◌∷◌, ◌++◌, length, sym, refl, ap, ◌∙◌, subst, append_assoc, arith, leb→le, eqb-true}
 use mathlib.Core.Bool.{false≢true}
 use mathlib.Core.Option.{Option, some, none}
-use Rattle.language.specs.Syntax.{pick, opt, nth, Name, same, listed, Expr, num, var, bin, un, and1, or1, idx, len, call, by_table, input, Exprs, no, and_then, Stmt, set1, store1, ex1, out1, if1, while1, ret1, break1, next1, Block, end, seq1, Kind, k_word, k_arr, Param, Arr, Fn, Item, i_word, i_arr, i_data, i_table, i_fn, i_use, File, Prog}
-use Rattle.grammar.specs.Text.{word_byte, word_bytes, digit_first, decimal, is_name, reserved, IsNumber, Between, Before, AreNames, one_n, more_n, AreNumbers, one_v, more_v, IsExpr, looser, or_e, and_e, two_e, one_e, num_e, var_e, brackets_e, index_e, len_e, call_e, table_e, in_e, AreArgs, none_es, one_es, more_es, IsStmt, set_s, store_s, ex_s, out_s, if_s, ifelse_s, while_s, return_s, break_s, continue_s, IsBlock, end_s, more_s, IsParam, word_p, wide_p, byte_p, AreParams, none_ps, one_ps, more_ps, AreVars, no_vars, some_vars, AreArrays, no_arrs, wide_a, byte_a, IsItem, word_i, wide_i, byte_i, data_i, text_i, table_i, use_i, fn_i, AreItems, no_items, more_items, AreFiles, no_files, more_files, Reads, pieces, gap, opens, shuts, flat, t_lp, t_rp, t_lb, t_rb, t_lc, t_rc, t_comma, t_semi, t_gets, t_colon, k_if, k_else, k_var, k_fn, k_use, k_file}
+use Rattle.language.specs.Syntax.{pick, opt, Name, Expr, num, var, bin, un, and1, or1, idx, len, call, by_table, input, Exprs, no, and_then, Stmt, set1, store1, ex1, out1, if1, while1, ret1, break1, next1, Block, end, seq1, Kind, k_word, k_arr, Param, Arr, Fn, Item, i_word, i_arr, i_data, i_table, i_fn, i_use, Prog}
+use Rattle.grammar.specs.Text.{word_byte, word_bytes, decimal, is_name, IsNumber, Between, Before, AreNames, one_n, more_n, AreNumbers, one_v, more_v, IsExpr, looser, or_e, and_e, two_e, one_e, num_e, var_e, brackets_e, index_e, len_e, call_e, table_e, in_e, AreArgs, none_es, one_es, more_es, IsStmt, set_s, store_s, ex_s, out_s, if_s, ifelse_s, while_s, return_s, break_s, continue_s, IsBlock, end_s, more_s, IsParam, word_p, wide_p, byte_p, AreParams, none_ps, one_ps, more_ps, AreVars, no_vars, some_vars, AreArrays, no_arrs, wide_a, byte_a, IsItem, word_i, wide_i, byte_i, data_i, text_i, table_i, use_i, fn_i, AreItems, no_items, more_items, AreFiles, no_files, more_files, pieces, gap, opens, shuts, flat, t_lp, t_rp, t_lb, t_rb, t_lc, t_rc, t_comma, t_semi, t_gets, t_colon, k_else}
 use Rattle.steps.specs.Steps.{Opnd}
-use Rattle.steps.specs.Generate.{Scope, arr_arg, need_e, need_es, need_s, need_b, words_of, slots_from, slots_of, scope, sorted, gen_fn, gen_prog}
+use Rattle.steps.specs.Generate.{Scope, arr_arg, need_e, need_es, need_s, need_b, slots_of, scope, sorted, gen_fn}
 use Rattle.language.specs.Meaning.{Top, tops, words_in, arrays_in, all_tops, resolve, as_fn, as_table, on_some}
 use Rattle.language.specs.Checks.{kind_of, any_arr, names_arr, fits_arg, fn_named, is_local, params_of, head_fn, params_of_table, ok_e, ok_es, ok_s, ok_b, ok_fn, ok_item, ok_is, ok_fs, once, names_in, file_names, has_main, totals, ok}
 use Rattle.steps.specs.Fits.{Each, MidRoom}

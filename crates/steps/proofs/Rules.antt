@@ -1,11 +1,11 @@
 -- A rule for each step: what is to be shown before it, from what is shown behind it.
-use Rattle.std.proofs.Common.{◌≡◌, ℕ, zero, suc, ◌+◌, ◌-◌, ◌*◌, ◌%◌, ◌<◌, ◌≤◌, Bool, true, false, not, eqb, List, [], ◌∷◌, ◌++◌, length, take, sym, refl, ap, ◌∙◌, subst, append-nil}
-use mathlib.Core.Option.{Option, some, none}
-use Rattle.language.specs.Syntax.{pick, opt, nth, put, Fn}
+use Rattle.std.proofs.Common.{◌≡◌, ℕ, suc, ◌-◌, ◌%◌, Bool, true, false, not, eqb, List, [], ◌∷◌, ◌++◌, length}
+use mathlib.Core.Option.{some, none}
+use Rattle.language.specs.Syntax.{pick, nth, put, Fn}
 use Rattle.language.specs.Words.{bit}
-use Rattle.language.specs.Meaning.{Mark, State, Result, val, vals, fine, broke, goes_on, gives, trap, spent, wrong, Value, word, div0, binary, single, writes, Bind, with_vars, with_arrays, Cells, with_words, cost, enter, new_arrs, back}
-use Rattle.steps.specs.Steps.{Step, s_num, s_copy, s_bin, s_un, s_flag, s_getw, s_setw, s_jump, s_jz, s_call, s_out, s_ret, s_table, s_in, s_idx, s_put, s_len, Opnd, arr_at, arrs_at, fresh, upto, Act, MFn, MProg, Places, upd, Saved, MSt, MNext, m_goes, m_ends, m_traps, m_stuck, args, enters, leaves, entry, exec, m_step, m_then, m_after}
-use Rattle.steps.proofs.Outcome.{Cfg, mk, mst, Out, done, stepd, trapd, spentd}
+use Rattle.language.specs.Meaning.{State, Result, trap, Value, div0, binary, single, writes, Bind, with_vars, with_arrays, Cells, with_words, cost, enter, new_arrs, back}
+use Rattle.steps.specs.Steps.{s_num, s_copy, s_bin, s_un, s_flag, s_getw, s_setw, s_jump, s_jz, s_call, s_out, s_ret, s_table, s_in, s_idx, s_put, s_len, Opnd, arr_at, arrs_at, fresh, upto, Act, MFn, MProg, Places, upd, Saved, args, entry}
+use Rattle.steps.proofs.Outcome.{Cfg, mk, Out, stepd, trapd}
 
 module _ {P : MProg} {W : ℕ} {Q : Cfg → Result → Type 0} {D pc : ℕ} {j : Act} {ps : Places} {st : List Saved} {s : State} {G : MFn} (hf : nth P.funs j.fn ≡ some G) where
   pub r_num : {r : Result} {d n : ℕ} → nth G.code pc ≡ some (s_num d n) → Out P W Q (D - W) (mk j (suc pc) (upd ps d n) st s) r → Out P W Q D (mk j pc ps st s) r

@@ -1,12 +1,12 @@
 -- Whatever steps come to, places, words, arrays and what is left to read hold words.
-use Rattle.std.proofs.Common.{◌≡◌, ℕ, zero, suc, ◌+◌, ◌-◌, ◌*◌, ◌/◌, ◌%◌, ◌^◌, ◌<◌, ◌≤◌, Bool, true, false, not, ◌&&◌, ◌||◌, T, eqb, ltb, leb, List, [], ◌∷◌, ◌++◌, length, take, replicate, sym, refl, ap, ◌∙◌, subst, ap₂, mod-lt, pow-suc, div-le_self, arith, lit<, lit≤}
+use Rattle.std.proofs.Common.{◌≡◌, ℕ, zero, suc, ◌+◌, ◌-◌, ◌*◌, ◌/◌, ◌%◌, ◌^◌, ◌<◌, ◌≤◌, Bool, true, false, not, ◌&&◌, ◌||◌, eqb, ltb, leb, List, [], ◌∷◌, ◌++◌, length, take, replicate, refl, subst, mod-lt, pow-suc, div-le_self, arith, lit<, lit≤}
 use mathlib.Core.Option.{Option, some, none}
 use native.Mathlib.Nat.{mod-le}
 use lib.ListN.{length-replicate}
 use Rattle.language.specs.Syntax.{pick, opt, nth, put}
-use Rattle.language.specs.Words.{all, bit, odd, bits, xor1, and_w, or_w, xor_w, add, sub, mul, shl, shr}
+use Rattle.language.specs.Words.{all, bit, odd, bits, xor1}
 use Rattle.language.specs.Meaning.{on_some, Cells, div0, binary, single}
-use Rattle.steps.specs.Steps.{Opnd, o_top, o_own, Step, s_num, s_copy, s_bin, s_un, s_flag, s_getw, s_setw, s_jump, s_jz, s_call, s_table, s_out, s_ret, s_in, s_idx, s_put, s_len, Shape, MFn, MProg, Places, upd, Saved, MSt, MNext, m_goes, m_ends, m_traps, m_stuck, to, args, arr_at, arrs_at, entry, fresh, enters, leaves, with_place, with_array, reads_in, exec, m_step, m_then, m_after, m_begin}
+use Rattle.steps.specs.Steps.{Opnd, Step, s_num, s_copy, s_bin, s_un, s_flag, s_getw, s_setw, s_jump, s_jz, s_call, s_table, s_out, s_ret, s_in, s_idx, s_put, s_len, Shape, MFn, MProg, Places, upd, Saved, MSt, MNext, m_goes, m_ends, m_traps, m_stuck, to, args, arr_at, arrs_at, entry, fresh, enters, leaves, with_place, with_array, reads_in, exec, m_step, m_then, m_after, m_begin}
 use Rattle.steps.specs.Fits.{Each, Small, StepFits, FnFits, CellsFit, ProgFits, PlacesSmall, StFits}
 use Rattle.steps.proofs.Variables.{none-some, some_inj}
 use Rattle.steps.proofs.Statements.{length-put}

@@ -1,15 +1,15 @@
 -- Statements, form by form; blocks; calls.
-use Rattle.std.proofs.Common.{◌≡◌, ℕ, zero, suc, ◌+◌, ◌-◌, ◌*◌, ◌%◌, ◌<◌, ◌≤◌, Bool, true, false, not, eqb, List, [], ◌∷◌, ◌++◌, length, sym, refl, ap, ◌∙◌, subst, zero-add, arith, length-append}
+use Rattle.std.proofs.Common.{◌≡◌, ℕ, zero, suc, ◌+◌, ◌-◌, ◌%◌, ◌≤◌, Bool, true, false, eqb, List, [], ◌∷◌, ◌++◌, length, sym, refl, ap, ◌∙◌, subst, arith, length-append}
 use mathlib.Core.Option.{Option, some, none}
-use Rattle.language.specs.Syntax.{pick, opt, nth, put, Name, Expr, Stmt, set1, store1, ex1, out1, if1, while1, ret1, break1, next1, Block, end, seq1, Fn}
-use Rattle.language.specs.Meaning.{on_some, on_val, on_fine, on_round, on_end, either, with_word, with_vars, with_arrays, Cells, with_words, assigns, writes, set_b, State, Result, val, vals, fine, broke, goes_on, gives, trap, spent, Value, word, Top, resolve, as_word, as_fn, Task, t_e, t_s, t_b, t_call, run}
-use Rattle.steps.specs.Steps.{Step, s_num, s_copy, s_jump, s_jz, s_out, s_put, s_ret, MFn, MProg, Places, upd, Saved}
-use Rattle.steps.specs.Generate.{at_place, size_v, gen_v, Scope, find, wide_of, the_arr, gen_set, size_e, size_s, size_b, gen_e, gen_s, gen_b}
+use Rattle.language.specs.Syntax.{pick, opt, nth, put, Name, Expr, Stmt, set1, store1, ex1, out1, if1, while1, ret1, break1, next1, Block, end, seq1}
+use Rattle.language.specs.Meaning.{on_fine, on_round, either, with_arrays, Cells, assigns, State, Result, fine, broke, goes_on, gives, trap, Value, word, t_s, t_b, run}
+use Rattle.steps.specs.Steps.{Step, s_jump, s_jz, s_out, s_put, s_ret, Places, Saved}
+use Rattle.steps.specs.Generate.{at_place, size_v, gen_v, Scope, wide_of, the_arr, gen_set, size_e, size_s, size_b, gen_e, gen_s, gen_b}
 use Rattle.steps.proofs.Outcome.{At, at_left, at_right, Cfg, mk, Out, done, less, bind, Passes}
-use Rattle.steps.proofs.Rules.{r_num, r_set, r_setw, r_jump, r_jz, r_out, r_ret, r_put, r_put_trap}
-use Rattle.steps.proofs.Variables.{Vars, Keeps, upd_same, upd_other, var_get, var_none, var_set, wides, wides-put}
-use Rattle.steps.proofs.Match.{Env, Fun, w_e, w_s, w_b, WfVar, own, top, WfArr, ArrAt, arr-there, cells-there, WfE, WfS, WfB, Pre, pre-on, Stays, stays_refl, stays_trans, QE, on_value, QS, q_fine, q_broke, q_next, q_gives, Sim, Linked, Compiled}
-use Rattle.steps.proofs.Expressions.{len-e, front, behind, nth-some, keeps_on, len_v, front_v, behind_v, on_operand}
+use Rattle.steps.proofs.Rules.{r_set, r_setw, r_jump, r_jz, r_out, r_put, r_put_trap}
+use Rattle.steps.proofs.Variables.{var_get, var_none, var_set, wides-put}
+use Rattle.steps.proofs.Match.{Env, Fun, w_s, w_b, WfVar, own, top, ArrAt, arr-there, cells-there, WfS, WfB, Pre, pre-on, stays_trans, on_value, QS, q_fine, q_broke, q_next, q_gives, Sim}
+use Rattle.steps.proofs.Expressions.{len-e, front, behind, keeps_on, len_v, front_v, behind_v, on_operand}
 
 mutual
   pub len_s : (a : Stmt) (Γ : Scope) (d k m pc : ℕ) → length (gen_s Γ a d k m pc) ≡ size_s Γ a

@@ -1,10 +1,9 @@
 -- A function's own names: by name in the meaning, by place in the middle language.
-use Rattle.std.proofs.Common.{◌≡◌, ℕ, zero, suc, ◌+◌, ◌-◌, ◌*◌, ◌<◌, ◌≤◌, Bool, true, false, not, ◌&&◌, T, eqb, ◌≢◌, List, [], ◌∷◌, ◌++◌, length, take, replicate, sym, refl, ap, ◌∙◌, subst, ap₂, append_assoc, add-zero, arith, eqb→eq, length-append, eq-eqb, ne_eqb, eqb-true}
+use Rattle.std.proofs.Common.{◌≡◌, ℕ, zero, suc, ◌+◌, ◌<◌, ◌≤◌, Bool, true, false, ◌&&◌, eqb, ◌≢◌, List, [], ◌∷◌, ◌++◌, length, take, replicate, sym, refl, ap, ◌∙◌, subst, ap₂, append_assoc, add-zero, arith, length-append, eq-eqb, ne_eqb, eqb-true}
 use mathlib.Core.Option.{Option, some, none}
-use lib.Dec.{eqb_refl}
-use Rattle.language.specs.Syntax.{pick, opt, nth, put, Name, same, Kind, k_word, k_arr, Param, Arr}
-use Rattle.language.specs.Meaning.{on_some, Cells, Bind, get_b, set_b, Value, word, array, bind_params, bind_vars, bind_arrs, new_arrs}
-use Rattle.steps.specs.Steps.{Places, upd, upto, fresh, Shape}
+use Rattle.language.specs.Syntax.{pick, nth, put, Name, same, Kind, k_word, k_arr, Param, Arr}
+use Rattle.language.specs.Meaning.{Cells, Bind, get_b, set_b, Value, word, array, bind_params, bind_vars, bind_arrs, new_arrs}
+use Rattle.steps.specs.Steps.{Places, upd, upto, fresh}
 use Rattle.steps.specs.Generate.{Slot, w_slot, a_slot, Ref, r_word, r_arr, find, words_of, slot_of, arr_slots, var_slots, slots_from, shapes_of}
 
 pub upd_same : (ps : Places) (d x : ℕ) → upd ps d x d ≡ some x

@@ -1,20 +1,19 @@
 -- The whole program: what its meaning comes to, its steps come to, and they go on as long as it does.
-use Rattle.std.proofs.Common.{◌≡◌, ℕ, zero, suc, ◌+◌, ◌-◌, ◌*◌, ◌<◌, ◌≤◌, Bool, true, false, not, ◌⊎◌, List, [], ◌∷◌, ◌++◌, length, replicate, sym, refl, ap, ◌∙◌, subst, inl, inr, add-zero, zero-add, mul-suc, arith, length-append}
-use mathlib.Core.Bool.{false≢true}
-use mathlib.Core.Option.{Option, some, none}
+use Rattle.std.proofs.Common.{◌≡◌, ℕ, suc, ◌+◌, ◌-◌, ◌*◌, ◌<◌, ◌≤◌, ◌⊎◌, List, [], ◌∷◌, ◌++◌, replicate, sym, refl, ap, ◌∙◌, subst, inl, inr, mul-suc, arith}
+use mathlib.Core.Option.{some, none}
 use native.Mathlib.Nat.{lt_of_mul-lt-mul_left}
 use native.Mathlib.Decide.{dec_le}
 use lib.ListN.{length-replicate}
-use Rattle.language.specs.Syntax.{pick, opt, nth, put, Name, Expr, call, Exprs, no as no_more, Prog}
-use Rattle.language.specs.Meaning.{State, Result, val, vals, fine, broke, goes_on, gives, trap, spent, wrong, Value, word, t_e, run, means, begin, w_main, first_file, all_words, all_arrays}
-use Rattle.steps.specs.Steps.{Step, s_ret, Act, MFn, MProg, Places, upd, Saved, MSt, MNext, m_goes, m_ends, m_traps, m_stuck, m_step, m_then, m_after, m_begin, m_shown}
-use Rattle.steps.specs.Generate.{Scope, gen_e, size_e}
-use Rattle.steps.proofs.Outcome.{At, at_left, at_right, Cfg, mk, mst, Out, done, stepd, trapd, spentd, less, bind, Passes}
-use Rattle.steps.proofs.Match.{Env, Fun, w_e, WfE, Pre, Stays, QE, q_val, Sim, SimE, Linked, Compiled}
+use Rattle.language.specs.Syntax.{nth, call, no as no_more}
+use Rattle.language.specs.Meaning.{State, Result, val, trap, spent, word, t_e, run, means, begin, w_main, first_file, all_words, all_arrays}
+use Rattle.steps.specs.Steps.{s_ret, Act, MFn, MProg, Places, MSt, MNext, m_goes, m_ends, m_traps, m_stuck, m_step, m_then, m_after, m_begin, m_shown}
+use Rattle.steps.specs.Generate.{gen_e, size_e}
+use Rattle.steps.proofs.Outcome.{At, Cfg, mk, mst, Out, done, stepd, trapd, spentd}
+use Rattle.steps.proofs.Match.{Env, Fun, WfE, Pre, QE, q_val, Linked}
 use Rattle.steps.proofs.Variables.{wides}
 use Rattle.steps.proofs.Expressions.{front, behind}
 use Rattle.steps.proofs.Calls.{sim}
-use Rattle.language.specs.Observe.{Front, none_yet}
+use Rattle.language.specs.Observe.{Front}
 use Rattle.steps.specs.Correct.{MidRight}
 use Rattle.steps.proofs.Growth.{front_refl, Grown, stuck, goes, traps, grown, after-add}
 use Rattle.language.specs.Observe.{state_of, outs_of, IsSpent, is_spent}

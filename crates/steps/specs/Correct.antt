@@ -1,12 +1,12 @@
 -- The promise of the middle language.
-use Rattle.std.specs.Prelude.{◌≡◌, ℕ, true, ◌⊎◌, List, [], ◌∷◌, ◌≢◌}
-use Rattle.std.proofs.Math.Option.{Option, some, none}
+use Rattle.std.specs.Prelude.{◌≡◌, ℕ, true, ◌⊎◌, List, ◌≢◌}
+use Rattle.std.proofs.Math.Option.{some}
 use Rattle.language.specs.Syntax.{Prog}
 use Rattle.language.specs.Checks.{ok}
-use Rattle.language.specs.Meaning.{State, Result, val, trap, wrong, Value, word, means}
-use Rattle.steps.specs.Steps.{MProg, MSt, MNext, m_goes, m_ends, m_traps, m_stuck, m_after, m_begin, m_shown}
+use Rattle.language.specs.Meaning.{State, val, trap, word, means}
+use Rattle.steps.specs.Steps.{MProg, MSt, m_goes, m_ends, m_traps, m_stuck, m_after, m_begin, m_shown}
 use Rattle.steps.specs.Generate.{gen_prog}
-use Rattle.language.specs.Observe.{Front, state_of, outs_of, IsSpent, is_spent}
+use Rattle.language.specs.Observe.{Front, state_of, outs_of, IsSpent}
 
 -- the same as in the promise for an image, one layer above
 pub record MidRight (p : Prog) (P : MProg) (ins : List ℕ) : Type 0 where

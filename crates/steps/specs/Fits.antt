@@ -1,11 +1,11 @@
 -- What the layer below may take for granted of a program in steps, and of its states.
-use Rattle.std.specs.Prelude.{◌≡◌, ℕ, ◌+◌, ◌<◌, ◌≤◌, Bool, true, false, List, [], ◌∷◌, length}
-use Rattle.std.proofs.Math.Option.{Option, some, none}
+use Rattle.std.specs.Prelude.{◌≡◌, ℕ, ◌+◌, ◌<◌, ◌≤◌, true, List, [], ◌∷◌, length}
+use Rattle.std.proofs.Math.Option.{some}
 use Rattle.language.specs.Syntax.{nth, Prog}
 use Rattle.language.specs.Words.{all}
 use Rattle.language.specs.Meaning.{Cells}
 use Rattle.language.specs.Checks.{ok}
-use Rattle.steps.specs.Steps.{Opnd, o_top, o_own, Step, s_num, s_copy, s_bin, s_un, s_flag, s_getw, s_setw, s_jump, s_jz, s_call, s_table, s_out, s_ret, s_in, s_idx, s_put, s_len, Shape, MFn, MProg, Places, Saved, MSt, m_goes, m_after, m_begin}
+use Rattle.steps.specs.Steps.{Opnd, o_top, o_own, Step, s_num, s_copy, s_bin, s_un, s_flag, s_getw, s_setw, s_jump, s_jz, s_call, s_table, s_out, s_ret, s_in, s_idx, s_put, s_len, Shape, MFn, MProg, Places, MSt, m_goes, m_after, m_begin}
 use Rattle.steps.specs.Generate.{gen_prog}
 use Rattle.grammar.specs.Text.{Reads}
 

@@ -1,5 +1,5 @@
 -- The middle language: a function's code is a row of steps over numbered places.
-use Rattle.std.specs.Prelude.{◌≡◌, ℕ, zero, suc, ◌+◌, ◌-◌, ◌%◌, Bool, true, false, not, List, [], ◌∷◌, ◌++◌, length, take, replicate, ◌==◌}
+use Rattle.std.specs.Prelude.{ℕ, zero, suc, ◌+◌, ◌-◌, ◌%◌, Bool, not, List, [], ◌∷◌, ◌++◌, length, take, replicate, ◌==◌}
 use Rattle.std.proofs.Math.Option.{Option, some, none}
 use Rattle.language.specs.Syntax.{pick, opt, nth, put}
 use Rattle.language.specs.Words.{bit}

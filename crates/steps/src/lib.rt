@@ -1,5 +1,7 @@
 // The middle language: a function's code is a row of steps over numbered places. The laws that the layers above and below rest on
 // stand on the contracts below; each function only says that its law is proved.
+#![tactic(auto)]
+
 ghost use Rattle.steps.specs.Correct.{MidAlwaysRight};
 ghost use Rattle.steps.specs.Fits.{MidFits, MidSmall, MidRoom};
 ghost use Rattle.steps.specs.Samples.{Worked};

@@ -1,5 +1,7 @@
 // vosc: says of the text in the files named whether it is a program, and of which stage; or where and why it is none. What is
 // answered is worked out in the crates below; here is only what reads and prints.
+#![tactic(auto)]
+
 use anyhow::anyhow;
 use front::{Reading, read};
 use messages::explain;

@@ -1,5 +1,5 @@
-use Rattle.std.proofs.Common.{◌≡◌, ℕ, length, sym, refl, ap, ◌∙◌, arith}
-use Rattle.lower.specs.Lower.{others, entry_of, row_of}
+use Rattle.std.proofs.Common.{◌≡◌, length, refl, ◌∙◌, arith}
+use Rattle.lower.specs.Lower.{others, row_of}
 use Rattle.assembler.proofs.Whole.{functions-given, code-end, no_room, assembled, table-room, near_size}
 use Rattle.assembler.proofs.assemble.Goals as goal
 

@@ -1,5 +1,5 @@
 -- `build`: what each layer answers is what the definition `built` gives, which keeps the promise.
-use Rattle.std.proofs.Common.{◌≡◌, sym, refl, ap, ◌∙◌, arith}
+use Rattle.std.proofs.Common.{◌≡◌, arith}
 use Rattle.grammar.proofs.Reading.{reading-sound}
 use Rattle.chain.proofs.Layers.{text_short}
 use Rattle.chain.proofs.Promised.{few_promised, none_promised, later_promised, full_promised, done_promised}

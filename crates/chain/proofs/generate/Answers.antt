@@ -1,5 +1,5 @@
 -- `generate`: the layers from resolved names to the image.
-use Rattle.std.proofs.Common.{◌≡◌, length, sym, refl, ap, ◌∙◌, subst, arith}
+use Rattle.std.proofs.Common.{length, sym, ap, ◌∙◌, subst, arith}
 use Rattle.image.specs.Image.{row}
 use Rattle.lower.specs.Lower.{image_of, code_words}
 use Rattle.lower.specs.Core.{Core}

@@ -1,7 +1,7 @@
 -- `read`: the parser's answer and the checks' together.
-use Rattle.std.proofs.Common.{Bool, sym, ap, ◌∙◌}
-use mathlib.Core.Option.{Option, some, none}
-use Rattle.language.specs.Syntax.{pick, Prog}
+use Rattle.std.proofs.Common.{Bool, ap, ◌∙◌}
+use mathlib.Core.Option.{some, none}
+use Rattle.language.specs.Syntax.{pick}
 use Rattle.front.proofs.Checked.{enough, read_as}
 use Rattle.front.proofs.read.Goals as goal
 

@@ -1,7 +1,7 @@
 -- `read`: the parser's answer and the checks' together.
 use Rattle.std.proofs.Common.{◌≡◌, Bool, true, sym, refl, ap, ◌∙◌, arith, length-take}
-use mathlib.Core.Option.{Option, some, none}
-use Rattle.language.specs.Syntax.{pick, Prog}
+use mathlib.Core.Option.{some, none}
+use Rattle.language.specs.Syntax.{pick}
 use Rattle.language.specs.Checks.{ok}
 use Rattle.grammar.specs.Reading.{reading}
 use Rattle.grammar.proofs.Reading.{reading-sound}

@@ -1,4 +1,4 @@
-use Rattle.std.proofs.Common.{◌≡◌, length, sym, ◌∙◌, subst, arith}
+use Rattle.std.proofs.Common.{length, ◌∙◌, subst, arith}
 use Rattle.stepper.specs.Bodies.{RoutineDone}
 use Rattle.stepper.proofs.Standing.{lent-more, lent_none}
 use Rattle.stepper.proofs.Routines.{passed_first, passed_more, passed-last, whole_is, all-good}

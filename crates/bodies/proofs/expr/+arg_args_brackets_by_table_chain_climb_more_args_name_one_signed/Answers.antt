@@ -4,7 +4,7 @@ use Rattle.std.proofs.lemmas.Result.{MatchResult-from_err}
 use Rattle.pieces.specs.declared.seen.Look.TheVariants.{Num, Named, Minus, Before, OpenRound, Len, Call, In}
 use Rattle.grammar.specs.Text.{pieces, gap}
 use Rattle.pieces.proofs.Looking.{seen-any, seen_at}
-use Rattle.bodies.proofs.Expressions.{named_by, bind-fail, bind-got, name-fail, started, num-did, one_none, signed-did, far_none, far-more, far-end, climb-by, name-call, name-index, var-did, call-did, index-did, index_open, table-did, args-fail, args_comma, args_of_more, args_none, args_more, args-all, args-refused, args-zero, args-some, args-some-fail, arg_did, table_open}
+use Rattle.bodies.proofs.Expressions.{named_by, bind-fail, name-fail, started, num-did, one_none, signed-did, far_none, far-more, far-end, climb-by, name-call, name-index, var-did, call-did, index-did, index_open, table-did, args-fail, args_comma, args_of_more, args_none, args_more, args-all, args-refused, args-zero, args-some, args-some-fail, arg_did, table_open}
 use Rattle.bodies.proofs.expr.+arg_args_brackets_by_table_chain_climb_more_args_name_one_signed.Goals as goal
 
 -- arguments

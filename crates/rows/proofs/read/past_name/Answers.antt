@@ -1,4 +1,4 @@
-use Rattle.std.proofs.Common.{◌≡◌, sym, ap, ◌∙◌, arith}
+use Rattle.std.proofs.Common.{arith}
 use Rattle.rows.proofs.Having.{has_word}
 use Rattle.rows.proofs.read.past_name.Goals as goal
 

@@ -1,4 +1,4 @@
-use Rattle.std.proofs.Common.{◌≡◌, ℕ, ◌+◌, min, sym, ap, ◌∙◌, arith}
+use Rattle.std.proofs.Common.{ℕ, ◌+◌, min, sym, ap, ◌∙◌, arith}
 use Rattle.rows.proofs.NodeRows.{past_named, past_bare}
 use Rattle.rows.proofs.read.past_node.Goals as goal
 

@@ -1,6 +1,5 @@
-use Rattle.std.proofs.Common.{◌≡◌, ℕ, ◌+◌, ◌<◌, ◌≤◌, length, get_or, sym, ap, ◌∙◌, arith}
-use Rattle.language.specs.Syntax.{Name, same}
-use Rattle.rows.specs.Has.{Has, named}
+use Rattle.std.proofs.Common.{◌<◌, length, sym, ◌∙◌, arith}
+use Rattle.rows.specs.Has.{named}
 use Rattle.rows.proofs.Having.{has_word, read_at}
 use Rattle.rows.proofs.Naming.{same-long, same_more, same_stop, same-done}
 use Rattle.rows.proofs.read.same_at.Goals as goal

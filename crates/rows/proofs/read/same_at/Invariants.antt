@@ -1,4 +1,4 @@
-use Rattle.std.proofs.Common.{◌≡◌, ◌+◌, ◌-◌, ◌≤◌, length, drop}
+use Rattle.std.proofs.Common.{◌≡◌, ◌+◌, ◌-◌, ◌≤◌, drop}
 use Rattle.language.specs.Syntax.{Name, same}
 use Rattle.rows.specs.Has.{Has, named}
 use Rattle.rows.proofs.read.same_at.Given as goal

@@ -1,4 +1,4 @@
-use Rattle.std.proofs.Common.{◌<◌, length, sym, subst, arith}
+use Rattle.std.proofs.Common.{sym, subst, arith}
 use Rattle.stepper.specs.Bodies.{Fit}
 use Rattle.stepper.proofs.Standing.{lent-more, lent_none}
 use Rattle.stepper.proofs.Looping.{nodes-long, reached_first, reached-more, reached_last}

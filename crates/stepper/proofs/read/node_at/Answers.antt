@@ -1,6 +1,5 @@
 use Rattle.std.proofs.Common.{ℕ, get_or, ap, ◌∙◌, arith}
 use Rattle.stepper.specs.Nodes.{meant}
-use Rattle.rows.proofs.Having.{uncut}
 use Rattle.stepper.proofs.Counting.{node-long, node-is}
 use Rattle.stepper.proofs.read.node_at.Goals as goal
 

@@ -1,6 +1,4 @@
 use Rattle.std.proofs.Common.{◌∙◌, arith}
-use Rattle.stepper.specs.Stands.{Lent}
-use Rattle.stepper.proofs.Standing.{lent-more}
 use Rattle.stepper.proofs.Routines.{routine-is}
 use Rattle.stepper.proofs.routine.write_routine.Goals as goal
 

@@ -1,4 +1,4 @@
-use Rattle.std.proofs.Common.{◌⊎◌, inl, inr, arith}
+use Rattle.std.proofs.Common.{inl, inr, arith}
 use Rattle.stepper.proofs.Swapping.{swapped_past, swapped_plain, swapped_jump}
 use Rattle.stepper.proofs.write.swap_target.Goals as goal
 use Rattle.stepper.proofs.write.swap_target.Goals.{else-tag-ne7-via-then-tag-ne7+else-tag-ne8, else-tag-ne7-via-else-tag-ne7}

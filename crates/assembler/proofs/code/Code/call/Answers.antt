@@ -1,4 +1,4 @@
-use Rattle.std.proofs.Common.{◌≡◌, suc, ◌+◌, [], ◌∷◌, refl, ap, ◌∙◌, arith}
+use Rattle.std.proofs.Common.{◌≡◌, suc, ◌+◌, [], ◌∷◌, ap, ◌∙◌, arith}
 use Rattle.lower.specs.Code.{rel, off}
 use Rattle.lower.specs.Lower.{loads}
 use Rattle.processor.specs.declared.instr.Instr.TheVariants.{Jal, Sw}

@@ -1,4 +1,3 @@
-use Rattle.std.proofs.Common.{◌+◌}
 use Rattle.lower.specs.Lower.{stores}
 use Rattle.assembler.specs.Emission.{reals, Put}
 use Rattle.assembler.proofs.code.Code.clear.Given as goal

@@ -1,4 +1,4 @@
-use Rattle.std.proofs.Common.{◌≡◌, ◌+◌, [], ◌∷◌, refl, ap, ◌∙◌, arith, rules}
+use Rattle.std.proofs.Common.{◌≡◌, ◌+◌, refl, ap, arith, rules}
 use Rattle.lower.specs.Lower.{stores}
 use Rattle.assembler.specs.Emission.{reals}
 use Rattle.assembler.proofs.Putting.{put-more, put_as, put_as1, put_as3}

@@ -1,4 +1,4 @@
-use Rattle.std.proofs.Common.{◌≡◌, suc, ◌+◌, [], ◌∷◌, refl, ap, ◌∙◌, arith}
+use Rattle.std.proofs.Common.{◌≡◌, suc, [], ◌∷◌, refl, ap, arith}
 use Rattle.lower.specs.Code.{rel}
 use Rattle.processor.specs.declared.instr.Instr.TheVariants.{Jal}
 use Rattle.assembler.proofs.Putting.{put_then, put_as2}

@@ -1,4 +1,4 @@
-use Rattle.std.proofs.Common.{refl, ◌∙◌, rules}
+use Rattle.std.proofs.Common.{refl, rules}
 use Rattle.assembler.proofs.Putting.{put-more, put_as, put_as2}
 use Rattle.assembler.proofs.Rows.{frame-number}
 use Rattle.assembler.proofs.code.Code.leave.Goals as goal

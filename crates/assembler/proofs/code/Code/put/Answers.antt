@@ -1,4 +1,4 @@
-use Rattle.std.proofs.Common.{[], ◌∷◌, refl, ap, ◌∙◌, arith, length-set}
+use Rattle.std.proofs.Common.{refl, arith, length-set}
 use Rattle.std.proofs.lemmas.List.{take_more_set}
 use Rattle.assembler.proofs.Putting.{put_word}
 use Rattle.assembler.proofs.code.Code.put.Goals as goal

@@ -1,5 +1,5 @@
-use Rattle.std.proofs.Common.{◌≡◌, sym, refl, ap, subst, arith}
-use Rattle.rows.proofs.Writing.{wrote-more, wrote-take, wrote-all}
+use Rattle.std.proofs.Common.{arith}
+use Rattle.rows.proofs.Writing.{wrote-take, wrote-all}
 use Rattle.rows.proofs.row.Row.put_name.Goals as goal
 
 pub loop-i-preserved : goal.loop-i-preserved

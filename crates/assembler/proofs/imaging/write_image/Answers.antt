@@ -1,6 +1,6 @@
 use Rattle.std.proofs.Common.{◌∙◌}
 use Rattle.assembler.proofs.Whole.{image-written, part-long}
-use Rattle.assembler.proofs.image.write_image.Goals as goal
+use Rattle.assembler.proofs.imaging.write_image.Goals as goal
 
 pub returns : goal.returns
 returns c m g k e =

@@ -1,6 +1,6 @@
 use Rattle.std.proofs.Common.{sym, refl, ◌∙◌, rules}
 use Rattle.assembler.proofs.Whole.{code-written}
-use Rattle.assembler.proofs.image.write_code.Goals as goal
+use Rattle.assembler.proofs.imaging.write_code.Goals as goal
 
 pub returns : goal.returns
 returns c m g k e =

@@ -1,9 +1,7 @@
-use Rattle.std.proofs.Common.{◌≡◌, ℕ, List, ◌∷◌, sym, refl, ap, ◌∙◌, subst, arith, rules}
-use Rattle.rows.specs.Has.{Has}
+use Rattle.std.proofs.Common.{sym, refl, ap, arith, rules}
 use Rattle.assembler.specs.declared.extent.Extent.TheVariants.{Near}
-use Rattle.assembler.specs.Tables.{begins, all_starts}
 use Rattle.assembler.proofs.Whole.{has_same, pushed-table, begins-long, all-starts-long}
-use Rattle.assembler.proofs.image.measure.Goals as goal
+use Rattle.assembler.proofs.imaging.measure.Goals as goal
 
 pub returns-then-size-lt-REACH : goal.returns-then-size-lt-REACH
 returns-then-size-lt-REACH c = record {
