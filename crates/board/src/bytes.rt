@@ -36,7 +36,7 @@ mod tests {
         let words = words_of_bytes(rt.alloc(), &[69, 76, 0, 0, 255, 255, 255, 255])?.ok_or(
             "refused",
         )?;
-        assert!(rt; words.as_slice() == [19525, 4294967295]);
+        assert!(rt; words.as_slice() == [19525, 4294967295].as_slice());
         assert!(rt; words_of_bytes(rt.alloc(), &[1, 2, 3, 4, 5])?.is_none());
         Ok(())
     }

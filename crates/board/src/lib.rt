@@ -1,5 +1,7 @@
 // A board to run images on: numbers and words from text and bytes, what memory and registers hold before an image is loaded,
 // the options, and the start. The program that uses it has only to read and to print.
+#![tactic(auto)]
+
 mod bytes;
 mod filling;
 mod numbers;

@@ -104,7 +104,7 @@ mod tests {
         let none = read_words(rt.alloc(), b" \n\t")?.ok_or("refused")?;
         assert_eq!(rt; none.len(), 0);
         let three = read_words(rt.alloc(), b"1 22\r\n 4294967295")?.ok_or("refused")?;
-        assert!(rt; three.as_slice() == [1, 22, 4294967295]);
+        assert!(rt; three.as_slice() == [1, 22, 4294967295].as_slice());
         assert!(rt; read_words(rt.alloc(), b"1 4294967296")?.is_none());
         assert!(rt; read_words(rt.alloc(), b"1,2")?.is_none());
         Ok(())

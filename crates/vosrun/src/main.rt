@@ -1,5 +1,7 @@
 // vosrun: places an image in memory and runs it on the proved processor. All that is worked out stands in the crates below;
 // here is only what reads and prints.
+#![tactic(auto)]
+
 use anyhow::anyhow;
 use board::{
     Setting, Settings, Started, defaults, fill, read_words, set_option, start, words_of_bytes,
