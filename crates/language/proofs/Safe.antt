@@ -1,5 +1,5 @@
 -- No program that the checks accept comes to where nothing is meant; and its states stay well typed, with small words if those to
--- read are. By induction on the depth, one lemma for each form; the laws Never-wrong and Further follow.
+-- read are. By induction on the depth, one lemma for each form; the laws NeverWrong and Further follow.
 use mathlib.Core.Path.{◌≡◌, refl, sym, ◌∙◌, ap, subst}
 use mathlib.Core.Bool.{Bool, true, false, ◌&&◌, not}
 use mathlib.Core.List.{List, [], ◌∷◌, ◌++◌, append_assoc, append-nil}

@@ -17,7 +17,7 @@ pub data Op : Type 0 where
   o_add o_sub o_mul o_div o_rem o_eq o_ne o_lt o_le o_gt o_ge o_and o_or o_xor o_shl o_shr : Op
 
 pub data Op1 : Type 0 where
-  -- u-flag: 1 unless it is 0
+  -- u_flag: 1 unless it is 0
   u_neg u_not u_inv u_flag : Op1
 
 -- the operators, but for a division by nought

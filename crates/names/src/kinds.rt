@@ -19,7 +19,7 @@ use rows::read::{at, past_name};
 // The names of the function that an item is; its body stands behind them.
 pub fn names_of(row: &[u32], item: usize) -> Listed
     ensures names { (g : Fn) → Has row.now item (item_row (i_fn g)) → IsListed row.now (locals g) result }
-    ensures body { (g : Fn) → Has row.entry.now item (item_row (i_fn g)) → Has row.entry.now result.place (list_row local_row (locals g) ++ body_row g.body) }
+    ensures body { (g : Fn) → Has row.now item (item_row (i_fn g)) → Has row.now result.place (list_row local_row (locals g) ++ body_row g.body) }
 {
     let head = past_name(row, item.saturating_add(2));
     let params = at(row, head);

@@ -37,7 +37,7 @@ Placed (Pair d c) t r = Unit {0}
 Placed Bad t r = Unit {0}
 Placed End t r = r ≡ []
 
--- a word is of word_bytes, and a sign begins with none
+-- a word is of word bytes, and a sign begins with none
 abbrev pub Sane : Piece → Type 0
 Sane (Word w) = (word_bytes w.now ≡ true) × (1 ≤ length w.now)
 Sane (Text w) = Unit {0}

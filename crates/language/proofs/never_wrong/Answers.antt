@@ -1,4 +1,4 @@
--- The contract of never_wrong: Never-wrong.
+-- The contract of never_wrong: NeverWrong.
 use Rattle.language.proofs.Safe.{never-wrong}
 use Rattle.language.proofs.never_wrong.Goals as goal
 

@@ -1,4 +1,4 @@
--- The contract of only_grows: Only-grows.
+-- The contract of only_grows: OnlyGrows.
 use Rattle.language.proofs.Growth.{only_grows_holds}
 use Rattle.language.proofs.only_grows.Goals as goal
 

@@ -1,4 +1,4 @@
--- The contract of words_stay: Words-stay.
+-- The contract of words_stay: WordsStay.
 use Rattle.language.proofs.WordsStay.{words_stay_holds}
 use Rattle.language.proofs.words_stay.Goals as goal
 
