@@ -1,4 +1,4 @@
-// vosc: builds the program that the files named are, and writes its image; or says where and why they are none. What is answered
+// builder: builds the program that the files named are, and writes its image; or says where and why they are none. What is answered
 // and what the image holds is worked out in the crates below; here is only what reads, writes and prints.
 #![tactic(auto)]
 
@@ -20,7 +20,7 @@ use files::{MOST, Source, join, read_sources, write_image};
 use options::{Request, image_name, read_request};
 use place::{find_place, line_of};
 
-const USAGE: &str = "usage: vosc [-o IMAGE] FILE...
+const USAGE: &str = "usage: builder [-o IMAGE] FILE...
 
 Builds the program that the files are, their bytes one after another, and writes its image.
   -o IMAGE   the image's file (the first file's name with .img for its ending)
@@ -109,7 +109,7 @@ fn main(rt: HostRuntime) -> anyhow::Result<()> {
         Ok(true) => Ok(()),
         Ok(false) => Err(anyhow!("nothing was built")),
         Err(error) => {
-            let _ = eprintln!(rt; "vosc: {error}");
+            let _ = eprintln!(rt; "builder: {error}");
             Err(error)
         }
     }
