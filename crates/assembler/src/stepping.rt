@@ -5,7 +5,7 @@ ghost use Rattle.lower.specs.Code.{rel, off, l_lw, l_sw, l_num, l_alui, l_upr, l
 ghost use Rattle.lower.specs.Lower.{ops, ops1, number as numbered, near_floor, low, loads, stores, prologue, lower, stub};
 ghost use Rattle.lower.specs.Core.{core_step};
 ghost use Rattle.middle.specs.Steps.{seen};
-ghost use Rattle.assembler.specs.Operators.{two as two-seen, one as one_seen};
+ghost use Rattle.assembler.specs.Operators.{two as two_seen, one as one_seen};
 ghost use Rattle.assembler.specs.Emission.{reals, Put};
 ghost use Rattle.assembler.specs.Frames.{bare, routine, entry_at, step_place};
 
@@ -50,7 +50,7 @@ impl Code<'_> {
     }
 
     fn two(&mut self, o: Two)
-        ensures { Put self.old self.new (reals 0 (ops 0 (two-seen o))) }
+        ensures { Put self.old self.new (reals 0 (ops 0 (two_seen o))) }
     {
         let sub = Instr::Op(Alu::Sub, 7, 5, 6);
         let less = Instr::Op(Alu::Sltu, 7, 5, 6);
@@ -106,7 +106,7 @@ impl Code<'_> {
     }
 
     fn binary(&mut self, o: Two, to: FramePlace, left: FramePlace, right: FramePlace)
-        ensures { Put self.old self.new (reals 0 (l_lw 5 (suc left.0) ∷ l_lw 6 (suc right.0) ∷ []) ++ (reals 0 (ops 0 (two-seen o)) ++ reals 0 (l_sw 7 (suc to.0) ∷ []))) }
+        ensures { Put self.old self.new (reals 0 (l_lw 5 (suc left.0) ∷ l_lw 6 (suc right.0) ∷ []) ++ (reals 0 (ops 0 (two_seen o)) ++ reals 0 (l_sw 7 (suc to.0) ∷ []))) }
     {
         self.put2(load(5, left), load(6, right));
         self.two(o);

@@ -98,7 +98,7 @@ no_start End x s a b c d e f g h = refl
 
 pub one_none : {t r : List ℕ} (k : Look) → First k t r ⊎ Nothing t r → ((n : ℕ) → k ≡ Num n → ⊥) → ((w : Bor (List ℕ)) → k ≡ Named w → ⊥) → (k ≡ Minus → ⊥) → ((o : ℕ) → k ≡ Before o → ⊥) → (k ≡ OpenRound → ⊥) → (k ≡ Len → ⊥) → (k ≡ Call → ⊥) → (k ≡ In → ⊥) → reader.one (pieces gap t) ≡ fail
 one_none {t} {r} k (inl x) a b c d e f g h = one-is k x ∙ no_start k x.word (pieces gap r) a b c d e f g h
-one_none k (inr x) a b c d e f g h = ap reader.one x.said ∙ reader-fixed.one-is []
+one_none k (inr x) a b c d e f g h = ap reader.one x.said ∙ reader-fixed.one_is []
 
 pub signed-did : {t r : List ℕ} {o p q : Row} (n : ℕ) → Did 0 (reader.one (pieces gap t)) (expr_row false) t r o p → Wrote p q (6 ∷ n ∷ []) → Did 2 (signed reader n (pieces gap t)) (expr_row false) t r o q
 unfolding expr_row
@@ -240,7 +240,7 @@ by-more g_end w s m b = absurd (b m)
 by-more g_none w s m b = refl
 
 pub args_of_more : (s : List Name) → ate t_rp s ≡ none → args_of reader s ≡ bind (climb reader 0 s) (behind reader)
-args_of_more [] a = sym (bind-fail _ (bind-fail _ (reader-fixed.one-is [])))
+args_of_more [] a = sym (bind-fail _ (bind-fail _ (reader-fixed.one_is [])))
 args_of_more (w ∷ s) a = by-more (go_on (look w)) w s (go-means (look w) w (look-means w)) (λ e. ate-is w t_rp s e a)
 
 -- an expression that has become an argument

@@ -229,7 +229,7 @@ pub st_is : {t r : List ℕ} (k : code.Lead) (f : LeadFirst k t r) → stmt body
 st_is {t} {r} k f = ap (stmt body) f.said ∙ ap (λ l. st_by body l f.word (pieces gap r)) f.is
 
 pub st_other : (s : List Name) → head_lead s ≡ l_other → stmt body s ≡ bind (ex_end s) (λ e r. got (ex1 e) r)
-st_other [] e = sym (bind-fail _ (bind-fail _ (bind-fail _ (reader-fixed.one-is []))))
+st_other [] e = sym (bind-fail _ (bind-fail _ (bind-fail _ (reader-fixed.one_is []))))
 st_other (w ∷ s) e = ap (λ l. st_by body l w s) e ∙ ex-semi ex1 (w ∷ s)
 
 pub st_semi : {t r : List ℕ} (o p : Row) (res : Result (Bor (List ℕ)) Refused) (k : code.Lead) (f : LeadFirst k t r) (c : Expr → Stmt) (tag : ℕ) → st_by body (lead_of k) f.word (pieces gap r) ≡ ex_semi c (pieces gap r) → ((e : Expr) → expr_row false e ++ (tag ∷ []) ≡ stmt_row (c e)) → Parsed 0 (ex_end (pieces gap r)) (λ e. expr_row false e ++ (tag ∷ [])) r o p res → Parsed 0 (stmt body (pieces gap t)) stmt_row t o p res

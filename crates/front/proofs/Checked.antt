@@ -9,11 +9,11 @@ use Rattle.grammar.specs.ParseAll.{parse}
 use Rattle.grammar.specs.Reading.{small, reading}
 use Rattle.grammar.proofs.PieceKinds.{true_of}
 use Rattle.grammar.proofs.Reading.{reading-sound}
-use Rattle.limits.specs.Split.{item_resolved as item-l, items_resolved as items-l, files_resolved as files-l, resolved as resolved-l}
+use Rattle.limits.specs.Split.{item_resolved as item_l, items_resolved as items_l, files_resolved as files_l, resolved as resolved_l}
 use Rattle.names.specs.Resolved.{item_resolved, items_resolved, files_resolved, resolved}
 use Rattle.parser.specs.Programs.{Unread}
 
-same_item : (p : Prog) (f : Name) (i : Item) → item_resolved p f i ≡ item-l p f i
+same_item : (p : Prog) (f : Name) (i : Item) → item_resolved p f i ≡ item_l p f i
 same_item p f (i_word x) = refl
 same_item p f (i_arr a) = refl
 same_item p f (i_data w x ns) = refl
@@ -21,16 +21,16 @@ same_item p f (i_table x fs) = refl
 same_item p f (i_fn g) = refl
 same_item p f (i_use y xs) = refl
 
-same-items : (p : Prog) (f : Name) (is : List Item) → items_resolved p f is ≡ items-l p f is
+same-items : (p : Prog) (f : Name) (is : List Item) → items_resolved p f is ≡ items_l p f is
 same-items p f [] = refl
 same-items p f (i ∷ is) = ap₂ (λ (a b : Bool). a && b) (same_item p f i) (same-items p f is)
 
-same-files : (p q : Prog) → files_resolved p q ≡ files-l p q
+same-files : (p q : Prog) → files_resolved p q ≡ files_l p q
 same-files p [] = refl
 same-files p (f ∷ fs) = ap₂ (λ (a b : Bool). a && b) (same-items p f.name f.items) (same-files p fs)
 
 -- the two crates say the same of what needs look-ups
-pub same-resolved : (p : Prog) → resolved p ≡ resolved-l p
+pub same-resolved : (p : Prog) → resolved p ≡ resolved_l p
 same-resolved p = ap (λ (b : Bool). has_main p && b) (same-files p p)
 
 pub none_read : (t : List ℕ) → Unread t → reading t ≡ none

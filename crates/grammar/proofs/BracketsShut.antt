@@ -8,7 +8,7 @@ use Prim.Native.Nat.{ℕ, ◌+◌, ◌-◌, ◌≤◌}
 use native.Mathlib.Omega.{arith}
 use lib.Dec.{leb, T, leb→le}
 use Rattle.language.specs.Syntax.{pick, Name, same, Expr, Exprs, Stmt, Block, Param, Arr, Item}
-use Rattle.grammar.specs.Text.{t_lp, t_rp, t_lb, t_rb, t_lc, t_rc, t_semi, is_name, decimal, IsNumber, Between, plus, minus, times, over, rest, is, isnt, less, most, more, least, both, any, exclusive, left, right, Before, minus_before, not-before, flip_before, AreNames, one_n, more_n, AreNumbers, one_v, more_v, IsExpr, looser, or_e, and_e, two_e, one_e, num_e, var_e, brackets_e, index_e, len_e, call_e, table_e, in_e, AreArgs, none_es, one_es, more_es, IsStmt, set_s, store_s, ex_s, out_s, if_s, ifelse_s, while_s, return_s, break_s, continue_s, IsBlock, end_s, more_s, IsParam, word_p, wide_p, byte_p, AreParams, none_ps, one_ps, more_ps, AreVars, no_vars, some_vars, AreArrays, no_arrs, wide_a, byte_a, IsItem, word_i, wide_i, byte_i, data_i, text_i, table_i, use_i, fn_i, AreItems, no_items, more_items, opens, shuts, flat}
+use Rattle.grammar.specs.Text.{t_lp, t_rp, t_lb, t_rb, t_lc, t_rc, t_semi, is_name, decimal, IsNumber, Between, plus, minus, times, over, rest, is, isnt, less, most, more, least, both, any, exclusive, left, right, Before, minus_before, not_before, flip_before, AreNames, one_n, more_n, AreNumbers, one_v, more_v, IsExpr, looser, or_e, and_e, two_e, one_e, num_e, var_e, brackets_e, index_e, len_e, call_e, table_e, in_e, AreArgs, none_es, one_es, more_es, IsStmt, set_s, store_s, ex_s, out_s, if_s, ifelse_s, while_s, return_s, break_s, continue_s, IsBlock, end_s, more_s, IsParam, word_p, wide_p, byte_p, AreParams, none_ps, one_ps, more_ps, AreVars, no_vars, some_vars, AreArrays, no_arrs, wide_a, byte_a, IsItem, word_i, wide_i, byte_i, data_i, text_i, table_i, use_i, fn_i, AreItems, no_items, more_items, opens, shuts, flat}
 use Rattle.grammar.proofs.PieceKinds.{same-eq, and_0, and_1}
 
 -- how many brackets are open behind a piece, and behind some
@@ -77,7 +77,7 @@ plain-between right n = refl
 
 pub plain-before : {o : ℕ} {w : Name} → Before w o → (n : ℕ) → after1 n w ≡ n
 plain-before minus_before n = refl
-plain-before not-before n = refl
+plain-before not_before n = refl
 plain-before flip_before n = refl
 
 pub over_++ : (n : ℕ) {m : ℕ} (s t : List Name) → level n s ≡ n → level n t ≡ m → level n (s ++ t) ≡ m

@@ -95,7 +95,7 @@ module _ (R : Fns) (F : Fixed R) where
 
   -- what begins with a piece that is known
   pub begins : (w : Name) (s : List Name) (p : Piece) → look w ≡ p → R.one (w ∷ s) ≡ start R w p s
-  begins w s p e = F.one-is (w ∷ s) ∙ ap (λ q. start R w q s) e
+  begins w s p e = F.one_is (w ∷ s) ∙ ap (λ q. start R w q s) e
 
   one_p : {w : Name} {o : ℕ} {s : List Name} {a : Expr} → Before w o → Parsed R 8 s a → Parsed R 8 (w ∷ s) (un o a)
   one_p {w} {o} {s} {a} b p = of_tight (λ r q. go r q (look-before b))
@@ -136,11 +136,11 @@ module _ (R : Fns) (F : Fixed R) where
   args_by_first g_more w s es r e h = h
   args_by_first g_end w s es r e h =
       let q : w ≡ t_rp = subst (λ g. GoMeans g w) e (go-means (look w) w (look-means w)) in
-      absurd (fail-got (ap (λ x. bind (bind x (R.chain 0)) (behind R)) (sym (F.one-is (t_rp ∷ s))) ∙ ap (λ v. bind (climb R 0 (v ∷ s)) (behind R)) (sym q) ∙ h))
+      absurd (fail-got (ap (λ x. bind (bind x (R.chain 0)) (behind R)) (sym (F.one_is (t_rp ∷ s))) ∙ ap (λ v. bind (climb R 0 (v ∷ s)) (behind R)) (sym q) ∙ h))
   args_by_first g_none w s es r e h = h
 
   args_of_first : (s : List Name) (es : Exprs) (r : List Name) → bind (climb R 0 s) (behind R) ≡ got es r → args_of R s ≡ got es r
-  args_of_first [] es r h = absurd (fail-got (ap (λ x. bind (bind x (R.chain 0)) (behind R)) (sym (F.one-is [])) ∙ h))
+  args_of_first [] es r h = absurd (fail-got (ap (λ x. bind (bind x (R.chain 0)) (behind R)) (sym (F.one_is [])) ∙ h))
   args_of_first (w ∷ s) es r h = args_by_first (go_on (look w)) w s es r refl h
 
   pub all_args : (s : List Name) (es : Exprs) (r : List Name) → First R s es → args_of R (s ++ (t_rp ∷ r)) ≡ got es r

@@ -264,7 +264,7 @@ args_fix [] = args-nil 0
 args_fix (w ∷ s) = (reader-b (length s)).args_a (w ∷ s) (le_refl _)
 
 pub reader-fixed : Fixed reader
-reader-fixed = record { one-is = one_fix; chain_is = chain_fix; args_is = args_fix }
+reader-fixed = record { one_is = one_fix; chain_is = chain_fix; args_is = args_fix }
 
 pub reader-l : Shrinks reader
 unfolding reader

@@ -10,7 +10,7 @@ use lib.ListN.{length}
 use lib.Chars.{codes}
 use lib.Dec.{leb, eqb, T, eqb→eq, eqb_refl, lit<}
 use Rattle.language.specs.Syntax.{pick, opt, Name, same, Expr}
-use Rattle.grammar.specs.Text.{k_in, k_len, k_call, t_lp, t_rp, t_lb, t_comma, is_name, decimal, digit_first, word_bytes, IsNumber, Between, plus, minus, times, over, rest, is, isnt, less, most, more, least, both, any, exclusive, left, right, Before, minus_before, not-before, flip_before, IsExpr, or_e, and_e, two_e}
+use Rattle.grammar.specs.Text.{k_in, k_len, k_call, t_lp, t_rp, t_lb, t_comma, is_name, decimal, digit_first, word_bytes, IsNumber, Between, plus, minus, times, over, rest, is, isnt, less, most, more, least, both, any, exclusive, left, right, Before, minus_before, not_before, flip_before, IsExpr, or_e, and_e, two_e}
 use Rattle.grammar.specs.Parse.{o_or, o_and, o_bin, join, Tie, tie, Piece, p_num, p_name, p_op, p_minus, p_before, p_lp, p_rp, p_lb, p_comma, p_len, p_call, p_in, p_other, Entry, find, fixed, num_of, look, op_of, a_none, after}
 
 -- tests
@@ -106,7 +106,7 @@ fixed-right = (
               (
                 refl,
                 (
-                  not-before,
+                  not_before,
                   (
                     flip_before,
                     (
@@ -176,7 +176,7 @@ look-name x t = rw (name-no-num x t, true_of _ t)
 pub look-before : {w : Name} {o : ℕ} → Before w o → (look w ≡ p_before o) ⊎ ((look w ≡ p_minus) × (o ≡ 0))
 unfolding look
 look-before minus_before = inr (refl, refl)
-look-before not-before = inl refl
+look-before not_before = inl refl
 look-before flip_before = inl refl
 
 -- an operator between two is seen as such, and only those of the relation are

@@ -7,7 +7,7 @@ use native.Mathlib.Omega.{arith}
 use lib.ListN.{length}
 use lib.Dec.{leb, T, leb→le}
 use Rattle.language.specs.Syntax.{Name, Expr, Exprs, Stmt, Block, Param, Arr, Item, Prog}
-use Rattle.grammar.specs.Text.{is_name, IsNumber, Between, plus, minus, times, over, rest, is, isnt, less, most, more, least, both, any, exclusive, left, right, Before, minus_before, not-before, flip_before, AreNames, one_n, more_n, AreNumbers, one_v, more_v, IsExpr, looser, or_e, and_e, two_e, one_e, num_e, var_e, brackets_e, index_e, len_e, call_e, table_e, in_e, AreArgs, none_es, one_es, more_es, IsStmt, set_s, store_s, ex_s, out_s, if_s, ifelse_s, while_s, return_s, break_s, continue_s, IsBlock, end_s, more_s, IsParam, word_p, wide_p, byte_p, AreParams, none_ps, one_ps, more_ps, AreVars, no_vars, some_vars, AreArrays, no_arrs, wide_a, byte_a, IsItem, word_i, wide_i, byte_i, data_i, text_i, table_i, use_i, fn_i, AreItems, no_items, more_items, AreFiles, no_files, more_files, pieces, gap, Reads}
+use Rattle.grammar.specs.Text.{is_name, IsNumber, Between, plus, minus, times, over, rest, is, isnt, less, most, more, least, both, any, exclusive, left, right, Before, minus_before, not_before, flip_before, AreNames, one_n, more_n, AreNumbers, one_v, more_v, IsExpr, looser, or_e, and_e, two_e, one_e, num_e, var_e, brackets_e, index_e, len_e, call_e, table_e, in_e, AreArgs, none_es, one_es, more_es, IsStmt, set_s, store_s, ex_s, out_s, if_s, ifelse_s, while_s, return_s, break_s, continue_s, IsBlock, end_s, more_s, IsParam, word_p, wide_p, byte_p, AreParams, none_ps, one_ps, more_ps, AreVars, no_vars, some_vars, AreArrays, no_arrs, wide_a, byte_a, IsItem, word_i, wide_i, byte_i, data_i, text_i, table_i, use_i, fn_i, AreItems, no_items, more_items, AreFiles, no_files, more_files, pieces, gap, Reads}
 use Rattle.grammar.specs.Bounds.{Costs, Fair, each, w_e, w_es, w_s, w_b, w_i, w_is, words}
 use Rattle.grammar.proofs.PieceKinds.{and_0}
 use native.Mathlib.Nat.{mul-add, mul-suc, mul-zero, mul-le-mul_left}
@@ -62,7 +62,7 @@ module _ (m : ℕ) where
 
   before_1 : {o : ℕ} {w : Name} → Before w o → m ≤ each m w
   before_1 minus_before = omega arith
-  before_1 not-before = omega arith
+  before_1 not_before = omega arith
   before_1 flip_before = omega arith
 
   each_names : (k : ℕ) {s xs : List Name} → k ≤ m → AreNames s xs → each k xs ≤ paid m s

@@ -95,7 +95,7 @@ st_by-c l_name w s m h = name_st_c w m s h
 st_by-c l_other w s m h = h
 
 ex_c : (s : List Name) {a : Stmt} {r : List Name} → ex_semi ex1 s ≡ got a r → stmt body s ≡ got a r
-ex_c [] h = absurd (fail-got (sym (ap (λ x. bind (bind x (reader.chain 0)) Semi) (reader-fixed.one-is [])) ∙ h))
+ex_c [] h = absurd (fail-got (sym (ap (λ x. bind (bind x (reader.chain 0)) Semi) (reader-fixed.one_is [])) ∙ h))
 ex_c (w ∷ s) h = st_by-c (lead w) w s (lead-means w) h
 
 -- what no statement begins with

@@ -7,7 +7,7 @@ use Rattle.grammar.specs.ParseAll.{again, body_step, body, pars_step, arrs_step,
 
 -- a reader of expressions that is its own step
 pub record Fixed (R : Fns) : Type 0 where
-  pub one-is : (s : List Name) → R.one s ≡ one_step R s
+  pub one_is : (s : List Name) → R.one s ≡ one_step R s
   pub chain_is : (n : ℕ) (a : Expr) (s : List Name) → R.chain n a s ≡ chain_step R n a s
   pub args_is : (s : List Name) → R.args s ≡ next_arg R s
 

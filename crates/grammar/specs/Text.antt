@@ -69,15 +69,15 @@ read_byte (sign d) c = pick (joins d c) (turn ((d ∷ c ∷ []) ∷ []) gap) (fr
 read_byte note c = pick (eqb c 10) (turn [] gap) (turn [] note)
 
 -- the piece that the text's end finishes; a quoted text with no end is the piece #, which no program has
-abbrev pub at-end : Mode → List Name
-at-end gap = []
-at-end (word w) = w ∷ []
-at-end (quoted w) = codes "#" ∷ []
-at-end (sign d) = (d ∷ []) ∷ []
-at-end note = []
+abbrev pub at_end : Mode → List Name
+at_end gap = []
+at_end (word w) = w ∷ []
+at_end (quoted w) = codes "#" ∷ []
+at_end (sign d) = (d ∷ []) ∷ []
+at_end note = []
 
 abbrev pub pieces : Mode → List ℕ → List Name
-pieces m [] = at-end m
+pieces m [] = at_end m
 pieces m (c ∷ cs) = let t = read_byte m c in t.out ++ pieces t.mode cs
 
 -- Words and signs, by their bytes.
@@ -216,7 +216,7 @@ pub data Between : ℕ → Name → ℕ → Type 0 where
 -- the signs before one
 pub data Before : Name → ℕ → Type 0 where
   minus_before : Before (codes "-") 0
-  not-before : Before (codes "!") 1
+  not_before : Before (codes "!") 1
   flip_before : Before (codes "~") 2
 
 -- names, and numbers: one or more, with commas between them

@@ -11,7 +11,7 @@ use Rattle.language.specs.Observe.{Front, none_yet, and_so, state_of, outs_of, I
 use Rattle.language.proofs.WellTyped.{absurd_some, some_is}
 use Rattle.language.specs.Laws.{NeverWrong, Further, Grown, OnlyGrows}
 use Rattle.language.specs.Syntax.{pick, opt, nth, Name, Expr, num, var, bin, un, and1, or1, idx, len, call, by_table, input, Exprs, no, and_then, Stmt, set1, store1, ex1, out1, if1, while1, ret1, break1, next1, Block, end, seq1, Fn, Prog}
-use Rattle.language.specs.Meaning.{Value, Mark, State, Result, val, vals, fine, broke, goes_on, gives, trap, spent, wrong, on_val, on_vals, on_fine, on_round, on_end, back, num-of, div0, arith, either, get_var, get_arr, resolve, as_fn, as_table, as_word, on_some, get_b, Task, t_e, t_es, t_s, t_b, t_call, Go, reads, reads_from, writes, cell_at, cell_put, calls, evals, lists, assigns, does, runs, task, run, enter, begin, first_file, w_main}
+use Rattle.language.specs.Meaning.{Value, Mark, State, Result, val, vals, fine, broke, goes_on, gives, trap, spent, wrong, on_val, on_vals, on_fine, on_round, on_end, back, num_of, div0, arith, either, get_var, get_arr, resolve, as_fn, as_table, as_word, on_some, get_b, Task, t_e, t_es, t_s, t_b, t_call, Go, reads, reads_from, writes, cell_at, cell_put, calls, evals, lists, assigns, does, runs, task, run, enter, begin, first_file, w_main}
 
 -- what was put out, and the calls so far, only grow
 pub record Ext (s t : State) : Type 0 where
@@ -287,7 +287,7 @@ pub same-put : (s : State) (a i n : ℕ) → Step s (cell_put s a i n) (cell_put
 same-put s a i n = st_opt (nth s.arrays a) (stays tt) (λ c. st_opt (nth c.cells i) (stays (ext_refl s)) (λ old. stays (quiet refl refl refl)))
 
 pub same-assigns : (p : Prog) (f x : Name) (v : Value) (s : State) → Step s (assigns p f x v s) (assigns p f x v s)
-same-assigns p f x v s = st_opt (get_b s.vars x) (st_opt (num-of v) (stays tt) (λ n. st_opt (on_some (resolve p f x) as_word) (stays tt) (λ i. stays (quiet refl refl refl)))) (λ old. stays (quiet refl refl refl))
+same-assigns p f x v s = st_opt (get_b s.vars x) (st_opt (num_of v) (stays tt) (λ n. st_opt (on_some (resolve p f x) as_word) (stays tt) (λ i. stays (quiet refl refl refl)))) (λ old. stays (quiet refl refl refl))
 
 pub kept-writes : (n : ℕ) (s : State) → Kept s (writes n s)
 kept-writes n s = record { ext = record { o = n ∷ []; outs_is = refl; c = []; calls_is = sym (append-nil s.calls) }; held_is = refl }
@@ -299,14 +299,14 @@ module _ {go go' : Go} (p : Prog) (h : (f : Name) (t : Task) (s : State) → Ste
   e_ahead : (f : Name) (e : Expr) (s : State) → Step s (evals go p f e s) (evals go' p f e s)
   e_ahead f (num n) s = stays (here s)
   e_ahead f (var x) s = st_opt (get_var p f x s) (stays tt) (λ v. stays (here s))
-  e_ahead f (bin o a b) s = st_val (λ u s1. st_val (λ v s2. st_opt (num-of u) (stays tt) (λ x. st_opt (num-of v) (stays tt) (λ y. same-arith o x y s2))) (h f (t_e b) s1)) (h f (t_e a) s)
-  e_ahead f (un o a) s = st_val (λ u s1. st_opt (num-of u) (stays tt) (λ x. stays (here s1))) (h f (t_e a) s)
-  e_ahead f (and1 a b) s = st_val (λ u s1. st_opt (num-of u) (stays tt) (λ x. st_either (eqb x 0) (λ t. stays (here t)) (λ t. st_val (λ v s2. st_opt (num-of v) (stays tt) (λ y. stays (here s2))) (h f (t_e b) t)))) (h f (t_e a) s)
-  e_ahead f (or1 a b) s = st_val (λ u s1. st_opt (num-of u) (stays tt) (λ x. st_either (eqb x 0) (λ t. st_val (λ v s2. st_opt (num-of v) (stays tt) (λ y. stays (here s2))) (h f (t_e b) t)) (λ t. stays (here t)))) (h f (t_e a) s)
-  e_ahead f (idx x e) s = st_val (λ u s1. st_opt (num-of u) (stays tt) (λ i. st_opt (get_arr p f x s1) (stays tt) (λ a. same-cell s1 a i))) (h f (t_e e) s)
+  e_ahead f (bin o a b) s = st_val (λ u s1. st_val (λ v s2. st_opt (num_of u) (stays tt) (λ x. st_opt (num_of v) (stays tt) (λ y. same-arith o x y s2))) (h f (t_e b) s1)) (h f (t_e a) s)
+  e_ahead f (un o a) s = st_val (λ u s1. st_opt (num_of u) (stays tt) (λ x. stays (here s1))) (h f (t_e a) s)
+  e_ahead f (and1 a b) s = st_val (λ u s1. st_opt (num_of u) (stays tt) (λ x. st_either (eqb x 0) (λ t. stays (here t)) (λ t. st_val (λ v s2. st_opt (num_of v) (stays tt) (λ y. stays (here s2))) (h f (t_e b) t)))) (h f (t_e a) s)
+  e_ahead f (or1 a b) s = st_val (λ u s1. st_opt (num_of u) (stays tt) (λ x. st_either (eqb x 0) (λ t. st_val (λ v s2. st_opt (num_of v) (stays tt) (λ y. stays (here s2))) (h f (t_e b) t)) (λ t. stays (here t)))) (h f (t_e a) s)
+  e_ahead f (idx x e) s = st_val (λ u s1. st_opt (num_of u) (stays tt) (λ i. st_opt (get_arr p f x s1) (stays tt) (λ a. same-cell s1 a i))) (h f (t_e e) s)
   e_ahead f (len x) s = st_opt (get_arr p f x s) (stays tt) (λ a. st_opt (nth s.arrays a) (stays tt) (λ c. stays (here s)))
   e_ahead f (call x es) s = st_vals (λ vs s1. calls_ahead f x vs s1) (h f (t_es es []) s)
-  e_ahead f (by_table x e es) s = st_val (λ u s1. st_opt (num-of u) (stays tt) (λ i. st_vals (λ vs s2. st_opt (resolve p f x) (stays tt) (λ t. st_opt (as_table t) (stays tt) (λ fs. st_opt (nth fs i) (stays (ext_refl s2)) (λ g. calls_ahead t.file g vs s2)))) (h f (t_es es []) s1))) (h f (t_e e) s)
+  e_ahead f (by_table x e es) s = st_val (λ u s1. st_opt (num_of u) (stays tt) (λ i. st_vals (λ vs s2. st_opt (resolve p f x) (stays tt) (λ t. st_opt (as_table t) (stays tt) (λ fs. st_opt (nth fs i) (stays (ext_refl s2)) (λ g. calls_ahead t.file g vs s2)))) (h f (t_es es []) s1))) (h f (t_e e) s)
   e_ahead f input s = same_reads s
 
   es_ahead : (f : Name) (es : Exprs) (vs : List Value) (s : State) → Step s (lists go f es vs s) (lists go' f es vs s)
@@ -315,11 +315,11 @@ module _ {go go' : Go} (p : Prog) (h : (f : Name) (t : Task) (s : State) → Ste
 
   s_ahead : (f : Name) (a : Stmt) (s : State) → Step s (does go p f a s) (does go' p f a s)
   s_ahead f (set1 x e) s = st_val (λ v s1. same-assigns p f x v s1) (h f (t_e e) s)
-  s_ahead f (store1 x i e) s = st_val (λ u s1. st_val (λ v s2. st_opt (num-of u) (stays tt) (λ j. st_opt (num-of v) (stays tt) (λ n. st_opt (get_arr p f x s2) (stays tt) (λ a. same-put s2 a j n)))) (h f (t_e e) s1)) (h f (t_e i) s)
+  s_ahead f (store1 x i e) s = st_val (λ u s1. st_val (λ v s2. st_opt (num_of u) (stays tt) (λ j. st_opt (num_of v) (stays tt) (λ n. st_opt (get_arr p f x s2) (stays tt) (λ a. same-put s2 a j n)))) (h f (t_e e) s1)) (h f (t_e i) s)
   s_ahead f (ex1 e) s = st_val (λ v s1. stays (here s1)) (h f (t_e e) s)
-  s_ahead f (out1 e) s = st_val (λ v s1. st_opt (num-of v) (stays tt) (λ n. stays (kept-writes n s1))) (h f (t_e e) s)
-  s_ahead f (if1 e b c) s = st_val (λ v s1. st_opt (num-of v) (stays tt) (λ n. st_either (eqb n 0) (h f (t_b c)) (h f (t_b b)))) (h f (t_e e) s)
-  s_ahead f (while1 e b) s = st_val (λ v s1. st_opt (num-of v) (stays tt) (λ n. st_either (eqb n 0) (λ t. stays (here t)) (λ t. st_round (λ s2. h f (t_s (while1 e b)) s2) (h f (t_b b) t)))) (h f (t_e e) s)
+  s_ahead f (out1 e) s = st_val (λ v s1. st_opt (num_of v) (stays tt) (λ n. stays (kept-writes n s1))) (h f (t_e e) s)
+  s_ahead f (if1 e b c) s = st_val (λ v s1. st_opt (num_of v) (stays tt) (λ n. st_either (eqb n 0) (h f (t_b c)) (h f (t_b b)))) (h f (t_e e) s)
+  s_ahead f (while1 e b) s = st_val (λ v s1. st_opt (num_of v) (stays tt) (λ n. st_either (eqb n 0) (λ t. stays (here t)) (λ t. st_round (λ s2. h f (t_s (while1 e b)) s2) (h f (t_b b) t)))) (h f (t_e e) s)
   s_ahead f (ret1 e) s = st_val (λ v s1. stays (here s1)) (h f (t_e e) s)
   s_ahead f break1 s = stays (here s)
   s_ahead f next1 s = stays (here s)

@@ -244,16 +244,16 @@ on_end c (spent s) = spent s
 on_end c wrong = wrong
 
 -- a value as what is wanted: a word, an array's number
-abbrev pub num-of : Value → Option ℕ
-num-of (word n) = some n
-num-of (array a) = none
+abbrev pub num_of : Value → Option ℕ
+num_of (word n) = some n
+num_of (array a) = none
 
 abbrev pub arr_of : Value → Option ℕ
 arr_of (word n) = none
 arr_of (array a) = some a
 
 abbrev pub with_word : Value → (ℕ → Result) → Result
-with_word v f = opt (num-of v) wrong f
+with_word v f = opt (num_of v) wrong f
 
 -- a function's own names: what one is bound to, and bound anew
 abbrev pub get_b : List Bind → Name → Option Value

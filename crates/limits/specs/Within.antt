@@ -9,13 +9,13 @@ local_names [] = []
 local_names (l ∷ ls) = l.name ∷ local_names ls
 
 -- 1 to n elements
-abbrev pub size-within : ℕ → ℕ → Bool
-size-within n size = nat_le 1 size && nat_le size n
+abbrev pub size_within : ℕ → ℕ → Bool
+size_within n size = nat_le 1 size && nat_le size n
 
 -- own arrays have 1 to 4,096 elements
 abbrev pub local_sizes : List Local → Bool
 local_sizes [] = true
-local_sizes (l ∷ ls) = size-within 4096 l.size && local_sizes ls
+local_sizes (l ∷ ls) = size_within 4096 l.size && local_sizes ls
 
 -- at most 8 parameters, 64 variables and 16 arrays
 abbrev pub few : ℕ → ℕ → ℕ → Bool
@@ -31,7 +31,7 @@ fn_within g =
 -- what stands at the top: arrays have 1 to 65,536 elements, or values that are words or bytes
 abbrev pub item_within : Item → Bool
 item_within (i_word x) = true
-item_within (i_arr a) = size-within 65536 a.size
+item_within (i_arr a) = size_within 65536 a.size
 item_within (i_data w x ns) = nat_le 1 (length ns) && words_ok w ns
 item_within (i_table x fs) = true
 item_within (i_fn g) = fn_within g

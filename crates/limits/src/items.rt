@@ -6,7 +6,7 @@ ghost use Rattle.language.specs.Checks.{once, words_ok};
 ghost use Rattle.rows.specs.Has.{Has, named};
 ghost use Rattle.rows.specs.Nodes.{num_row};
 ghost use Rattle.rows.specs.Trees.{Local, local_row, list_row, fn_row, item_row};
-ghost use Rattle.limits.specs.Within.{local_names, size-within, local_sizes, few, fn_within, item_within};
+ghost use Rattle.limits.specs.Within.{local_names, size_within, local_sizes, few, fn_within, item_within};
 
 use super::head::head_of;
 use super::pass::{ARRAY, BASE, DATA, FUNCTION, number_at, past_local, past_locals};
@@ -29,7 +29,7 @@ const BYTES: usize = 256;
 
 // Whether a size is at least 1 and at most so much.
 fn size_fits(most: usize, size: usize) -> bool
-    ensures { result ≡ size-within most size }
+    ensures { result ≡ size_within most size }
 {
     (1 <= size) & (size <= most)
 }

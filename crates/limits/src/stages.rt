@@ -1,7 +1,7 @@
 // The stage of a program: the highest of its forms' stages.
 ghost use Rattle.std.specs.Prelude.{◌≡◌, ◌+◌, List, length};
 ghost use Rattle.language.specs.Syntax.{Fn, Item, File, Prog, stage_i, stage_is};
-ghost use Rattle.language.specs.Syntax.{stage as stage-of};
+ghost use Rattle.language.specs.Syntax.{stage as stage_of};
 ghost use Rattle.rows.specs.Has.{Has};
 ghost use Rattle.rows.specs.Nodes.{Node, nodes_row};
 ghost use Rattle.rows.specs.Trees.{Local, local_row, list_row, fn_row, item_row, file_row, prog_row};
@@ -125,7 +125,7 @@ fn stage_of_file(row: &[u32], file: usize) -> u32
 
 // The stage of a program.
 pub fn stage(row: &[u32]) -> u32
-    ensures { (p : Prog) → row.now ≡ prog_row p → result ≡ stage-of p }
+    ensures { (p : Prog) → row.now ≡ prog_row p → result ≡ stage_of p }
 {
     let files = at(row, 0);
     let mut here = 1;

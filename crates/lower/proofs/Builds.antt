@@ -23,7 +23,7 @@ use Rattle.lower.specs.Build.{Outcome, refused, written, of_text, BuildsRight}
 use Rattle.lower.proofs.Correct.{compiled_right, compiled_sound, compiled_fits}
 
 pub parts : Parts
-parts = record { one-program = one-program; never-wrong = never-wrong; further = further }
+parts = record { one_program = one-program; never_wrong = never-wrong; further = further }
 
 take_row : (r s : List ℕ) → take (length r) (r ++ s) ≡ r
 take_row [] s = refl

@@ -13,7 +13,7 @@ use Rattle.image.specs.Image.{Image, row}
 use Rattle.steps.specs.Steps.{MFn, MProg}
 use Rattle.steps.specs.Generate.{slots_from, slots_of, words_of, scope, gen_body, gen_b, sorted, fn_nos, gen_fn, gen_prog}
 use Rattle.lower.specs.Code.{LI, l_num}
-use Rattle.lower.specs.Lower.{stores, prologue, at_of, code_of, pro_width, fun_row, fun_width, funs_row, entry_in, row_of, main_no, lens, area, live, live_of, kept, part, plens, flat, data_of, data_size, data_words, tlens, tab_row, tab_words, tab_size, code_words, words_of as words-from, compile as image}
+use Rattle.lower.specs.Lower.{stores, prologue, at_of, code_of, pro_width, fun_row, fun_width, funs_row, entry_in, row_of, main_no, lens, area, live, live_of, kept, part, plens, flat, data_of, data_size, data_words, tlens, tab_row, tab_words, tab_size, code_words, words_of as words_from, compile as image}
 use Rattle.lower.proofs.CodeSize.{costs, widths, code_long, widths_both, stores-long, w-b}
 
 -- functions
@@ -132,7 +132,7 @@ files-words (f ∷ fs) w a =
 pub row-long : (p : Prog) → length (row_of (gen_prog p) (main_no p)) ≤ 6 + words costs p
 row-long p = omega (arith, funs-long (entry_in (gen_prog p)) (gen_prog p) p (all_tops p 0 0) 6, files-words p 0 0)
 
-words_long : (is : List LI) (q : ℕ) → length (words-from q is) ≡ length is
+words_long : (is : List LI) (q : ℕ) → length (words_from q is) ≡ length is
 words_long [] q = refl
 words_long (i ∷ is) q = ap suc (words_long is (suc q))
 
@@ -155,7 +155,7 @@ flat-long fl (c ∷ cs) = length-append (kept (fl 0) c).cells (flat (part (λ a.
 -- the image stands for any of this program's: as itself it would be computed at each step
 module _ (m : MProg) (main : ℕ) where
   code_words_long : length (code_words m main) ≡ length (row_of m main) + tab_size m
-  code_words_long = length-append (words-from 0 (row_of m main)) _ ∙ omega (arith, words_long (row_of m main) 0, table-words-long (entry_in m) ((length (row_of m main) + tab_size m) + data_words m) m.tables)
+  code_words_long = length-append (words_from 0 (row_of m main)) _ ∙ omega (arith, words_long (row_of m main) 0, table-words-long (entry_in m) ((length (row_of m main) + tab_size m) + data_words m) m.tables)
 
   body-long : length (code_words m main ++ data_of m) ≡ (length (row_of m main) + tab_size m) + data_size m
   body-long = length-append (code_words m main) (data_of m) ∙ omega (arith, code_words_long, flat-long (live_of m) m.arrays)

@@ -21,12 +21,12 @@ refused r o = record { answer = r; image = o }
 abbrev pub written : List ℕ → List ℕ → Outcome
 written r o = pick (ltb (length o) (length r)) (refused ImageFull o) (record { answer = Done (length r); image = r ++ drop (length r) o })
 
-abbrev pub of-program : List ℕ → Prog → Outcome
-of-program o p = pick (leb (stage p) landed) (written (row (compile p)) o) (refused (NotYet (stage p)) o)
+abbrev pub of_program : List ℕ → Prog → Outcome
+of_program o p = pick (leb (stage p) landed) (written (row (compile p)) o) (refused (NotYet (stage p)) o)
 
 abbrev pub of_text : List ℕ → Option Prog → Outcome
 of_text o none = refused NoProgram o
-of_text o (some p) = of-program o p
+of_text o (some p) = of_program o p
 
 -- text t, w work words, the words o lent for the image
 abbrev pub built : List ℕ → ℕ → List ℕ → Outcome

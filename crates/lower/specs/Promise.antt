@@ -68,8 +68,8 @@ BuiltSays t o o' Few = o' ≡ o
 
 -- the laws of texts and of the meaning, which every use of the promise rests on
 pub record Parts : Type 0 where
-  pub one-program : OneProgram
-  pub never-wrong : NeverWrong
+  pub one_program : OneProgram
+  pub never_wrong : NeverWrong
   pub further : Further
 
 -- the whole promise, with w work words lent

@@ -8,7 +8,7 @@ use super::lex::next_piece;
 use super::piece::Piece;
 use super::refused::{Reason, Refused, refuse};
 
-fn open_after(piece: Piece, n: u32) -> u32
+pub fn open_after(piece: Piece, n: u32) -> u32
     requires sane { Sane piece }
     requires few { n ≤ 40 }
     ensures { result ≡ opened_after piece.entry n }
@@ -25,7 +25,7 @@ fn open_after(piece: Piece, n: u32) -> u32
     n
 }
 
-fn signs_after(piece: Piece, n: u32) -> u32
+pub fn signs_after(piece: Piece, n: u32) -> u32
     requires sane { Sane piece }
     requires few { n ≤ 40 }
     ensures { result ≡ signed_after piece.entry n }

@@ -16,12 +16,13 @@ mod checking;
 mod closing;
 mod files;
 mod item;
+mod nesting;
 mod places;
 pub mod problem;
 pub mod words;
 
 use checking::check_problem;
-use places::piece_before;
+use nesting::{Refusal, past_limit};
 use problem::{Problem, What};
 
 // Bytes of a text at most.
@@ -39,15 +40,22 @@ fn parse_row(text: &[u8], words: &mut [u32]) -> Result<usize, Refused>
     }
 }
 
-// Where a text is refused. A limit of brackets or signs is passed at the piece before the one that the parser stops at.
-fn refused_at(text: &[u8], refused: Refused) -> usize {
-    let at = text.len().saturating_sub(refused.left);
-    match refused.reason {
-        Reason::TextTooLong => MOST_BYTES,
-        Reason::BracketsTooDeep => piece_before(text, at),
-        Reason::SignsTooMany => piece_before(text, at),
-        _ => at,
+// Where a text is refused, and why. The parser stops at the piece behind the one that is too many.
+fn refusal_of(text: &[u8], refused: Refused) -> Refusal {
+    if let Reason::TextTooLong = refused.reason {
+        return Refusal {
+            at: MOST_BYTES,
+            reason: Reason::TextTooLong,
+        };
     }
+    let told = Refusal {
+        at: text.len().saturating_sub(refused.left),
+        reason: refused.reason,
+    };
+    if text.len() > MOST_BYTES {
+        return told;
+    }
+    past_limit(text).unwrap_or(told)
 }
 
 // What is wrong with a text that is no program.
@@ -64,10 +72,13 @@ fn find_problem(text: &[u8], work: &mut [u32]) -> Problem
                 what: What::Fails(failure.fault),
             }
         }
-        Err(refused) => Problem {
-            at: refused_at(text, refused),
-            what: What::Reads(refused.reason),
-        },
+        Err(refused) => {
+            let refusal = refusal_of(text, refused);
+            Problem {
+                at: refusal.at,
+                what: What::Reads(refusal.reason),
+            }
+        }
     }
 }
 

@@ -63,22 +63,6 @@ pub fn offset(text: &[u8], rest: &[u8]) -> usize {
     text.len().saturating_sub(left_of(rest))
 }
 
-// The byte offset of the last piece that begins before a place; if there is none, the place.
-pub fn piece_before(text: &[u8], at: usize) -> usize {
-    let mut rest = text;
-    let mut last = at;
-    for _ in 0..text.len() {
-        let here = offset(text, rest);
-        if here >= at {
-            return last;
-        }
-        last = here;
-        let (_, behind) = next_piece(rest);
-        rest = behind;
-    }
-    last
-}
-
 // The text behind so many pieces.
 pub fn past_pieces(text: &[u8], n: usize) -> &[u8] {
     let mut rest = text;

@@ -2,7 +2,7 @@
 use Rattle.std.proofs.Common.{◌≡◌, Bool, true, false, ◌&&◌, List, [], ◌∷◌, ltb-true}
 use mathlib.Core.Bool.{false≢true}
 use mathlib.Core.Option.{Option, some, none}
-use Rattle.language.specs.Syntax.{opt, Name, Expr, num, var, bin, un, and1, or1, idx, len, call, by_table, input, Exprs, no as no-args, and_then, Stmt, set1, store1, ex1, out1, if1, while1, ret1, break1, next1, Block, end, seq1, Kind, k_word, k_arr, Param, Fn, Prog}
+use Rattle.language.specs.Syntax.{opt, Name, Expr, num, var, bin, un, and1, or1, idx, len, call, by_table, input, Exprs, no as no_args, and_then, Stmt, set1, store1, ex1, out1, if1, while1, ret1, break1, next1, Block, end, seq1, Kind, k_word, k_arr, Param, Fn, Prog}
 use Rattle.language.specs.Words.{all}
 use Rattle.language.specs.Meaning.{on_some, resolve, as_fn, as_table}
 use Rattle.language.specs.Checks.{kind_of, is_kind, any_arr, names_arr, fits_arg, first_k, rest_k, fn_named, is_local, params_of, head_fn, params_of_table, same_ps, alike, ok_e, ok_es, ok_s, ok_b, ok_fn}
@@ -74,7 +74,7 @@ module _ (p : Prog) (f : Name) (g : Fn) where
     checked_e input h a ns k = (tt, k)
 
     checked_es : (es : Exprs) (qs : List Param) → ok_es p f g qs es ≡ true → (ns : List Node) → Each (Checked p f) ns → Each (Checked p f) (nodes_es es ns)
-    checked_es no-args qs h ns k = k
+    checked_es no_args qs h ns k = k
     checked_es (and_then e es) qs h ns k =
         let z = and-true (fits_arg p f g e (ok_e p f g e) (first_k qs)) (ok_es p f g (rest_k qs) es) h in
         of_arg e (ok_e p f g e) (first_k qs) (checked_e e) z.0 true (nodes_es es ns) (checked_es es (rest_k qs) z.1 ns k)

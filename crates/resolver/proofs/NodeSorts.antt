@@ -17,7 +17,7 @@ use Rattle.names.proofs.BodyNodes.{node-long}
 use Rattle.names.proofs.Referents.{generated}
 use Rattle.resolver.specs.declared.words.NodeWords.{NodeWords}
 use Rattle.resolver.specs.Sound.{Sound, Known, Checked}
-use Rattle.resolver.specs.Stands.{Fits, named_by, is_value_name, is_plain_tag, has_value, three}
+use Rattle.resolver.specs.Stands.{Fits, named_by, is_value_name, plain_tag_of, has_value, three}
 use Rattle.resolver.proofs.Meanings.{read_is, pass-is, set_is, array-is}
 use Rattle.resolver.proofs.Bounds.{meant_fits, number_fits}
 
@@ -25,7 +25,7 @@ pub data Sort (p : Prog) (f : Name) (Γ : Scope) : Node → Type 0 where
   a_call : (n : ℕ) (x : Name) → Sort p f Γ (n_call n x)
   a_table : (n : ℕ) (x : Name) → Sort p f Γ (n_by n x)
   a_name : (t : Node) (x : Name) → (tag_of t ≡ 9 → ⊥) → (tag_of t ≡ 10 → ⊥) → is_value_name (tag_of t) ≡ true → node_row t ≡ tag_of t ∷ named x → resolve_node Γ t ≡ named_by (tag_of t) (meant Γ x) → Sort p f Γ t
-  a_plain : (t : Node) → (tag_of t ≡ 9 → ⊥) → (tag_of t ≡ 10 → ⊥) → is_value_name (tag_of t) ≡ false → ((w : List ℕ) (i : ℕ) → Has w i (node_row t) → Checked p f t → node_words (resolve_node Γ t) ≡ (is_plain_tag (tag_of t) ∷ pick (has_value (tag_of t)) (get_or w (i + 1) 0) 0 ∷ 0 ∷ [])) → Sort p f Γ t
+  a_plain : (t : Node) → (tag_of t ≡ 9 → ⊥) → (tag_of t ≡ 10 → ⊥) → is_value_name (tag_of t) ≡ false → ((w : List ℕ) (i : ℕ) → Has w i (node_row t) → Checked p f t → node_words (resolve_node Γ t) ≡ (plain_tag_of (tag_of t) ∷ pick (has_value (tag_of t)) (get_or w (i + 1) 0) 0 ∷ 0 ∷ [])) → Sort p f Γ t
 
 pub sort_of : (p : Prog) (f : Name) (Γ : Scope) (t : Node) → Sort p f Γ t
 unfolding tag_of
@@ -106,14 +106,14 @@ module _ {w : List ℕ} {i s u : ℕ} (p : Prog) (f : Name) (g : Fn) (small : le
           to (subst Fits (sym er) (meant_fits f g x so ok)) ∙ ap (λ (y : found.Reference). node_words (named_by (tag_of t) y)) er ∙ ap node_words (sym z)
       go (a_plain t n9 n10 b q) h e to = absurd (false≢true (sym b ∙ e))
 
-  pub plain_words_are : {v : NodeWords} {n : ℕ} (t : Node) → Has w i (node_row t) → Checked p f t → (tag_of t ≡ 9 → ⊥) → (tag_of t ≡ 10 → ⊥) → is_value_name (tag_of t) ≡ false → n ≡ get_or w s 0 → n < 4294967296 → (n < 4294967296 → three v ≡ (is_plain_tag (tag_of t) ∷ pick (has_value (tag_of t)) n 0 ∷ 0 ∷ [])) → three v ≡ node_words (resolve_node (own_scope p f g) t)
+  pub plain_words_are : {v : NodeWords} {n : ℕ} (t : Node) → Has w i (node_row t) → Checked p f t → (tag_of t ≡ 9 → ⊥) → (tag_of t ≡ 10 → ⊥) → is_value_name (tag_of t) ≡ false → n ≡ get_or w s 0 → n < 4294967296 → (n < 4294967296 → three v ≡ (plain_tag_of (tag_of t) ∷ pick (has_value (tag_of t)) n 0 ∷ 0 ∷ [])) → three v ≡ node_words (resolve_node (own_scope p f g) t)
   unfolding tag_of
   plain_words_are {v} {n} t h k n9 n10 e rd ln to = go (sort_of p f (own_scope p f g) t) h k n9 n10 e to
     where
-      go : {t : Node} → Sort p f (own_scope p f g) t → Has w i (node_row t) → Checked p f t → (tag_of t ≡ 9 → ⊥) → (tag_of t ≡ 10 → ⊥) → is_value_name (tag_of t) ≡ false → (n < 4294967296 → three v ≡ (is_plain_tag (tag_of t) ∷ pick (has_value (tag_of t)) n 0 ∷ 0 ∷ [])) → three v ≡ node_words (resolve_node (own_scope p f g) t)
+      go : {t : Node} → Sort p f (own_scope p f g) t → Has w i (node_row t) → Checked p f t → (tag_of t ≡ 9 → ⊥) → (tag_of t ≡ 10 → ⊥) → is_value_name (tag_of t) ≡ false → (n < 4294967296 → three v ≡ (plain_tag_of (tag_of t) ∷ pick (has_value (tag_of t)) n 0 ∷ 0 ∷ [])) → three v ≡ node_words (resolve_node (own_scope p f g) t)
       go (a_call c x) h k n9 n10 e to = absurd (n9 refl)
       go (a_table c x) h k n9 n10 e to = absurd (n10 refl)
       go (a_name t x m9 m10 b q z) h k n9 n10 e to = absurd (false≢true (sym e ∙ b))
       go (a_plain t m9 m10 b q) h k n9 n10 e to =
           let en : n ≡ get_or w (i + 1) 0 = rd ∙ ap (λ (m : ℕ). get_or w m 0) (omega (arith, node-long t, h.inside, second, small)) in
-          to ln ∙ ap (λ (m : ℕ). is_plain_tag (tag_of t) ∷ pick (has_value (tag_of t)) m 0 ∷ 0 ∷ []) en ∙ sym (q w i h k)
+          to ln ∙ ap (λ (m : ℕ). plain_tag_of (tag_of t) ∷ pick (has_value (tag_of t)) m 0 ∷ 0 ∷ []) en ∙ sym (q w i h k)

@@ -50,8 +50,8 @@ abbrev pub is_value_name : ℕ → Bool
 is_value_name n = ((((n == 1 || n == 7) || n == 8) || n == 12) || n == 13) || n == 26
 
 -- without a name: the tag, and whether a number or an operator follows it
-abbrev pub is_plain_tag : ℕ → ℕ
-is_plain_tag n = pick (n == 0) 0 (pick (n == 2) 5 (pick (n == 6) 6 (pick (nat_lt n 6) (n + 4) (pick (n == 11) 14 (pick (nat_lt n 25) (n + 5) 30)))))
+abbrev pub plain_tag_of : ℕ → ℕ
+plain_tag_of n = pick (n == 0) 0 (pick (n == 2) 5 (pick (n == 6) 6 (pick (nat_lt n 6) (n + 4) (pick (n == 11) 14 (pick (nat_lt n 25) (n + 5) 30)))))
 
 abbrev pub has_value : ℕ → Bool
 has_value n = (n == 0 || n == 2) || n == 6

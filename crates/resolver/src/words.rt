@@ -4,7 +4,7 @@ ghost use Rattle.language.specs.Syntax.{pick};
 ghost use Rattle.language.specs.Words.{bit};
 ghost use Rattle.names.specs.Refer.{wide};
 ghost use Rattle.generator.specs.ResolvedRows.{number_of, side_of, node_words};
-ghost use Rattle.resolver.specs.Stands.{Fits, read_of, pass_of, set_of, array_of, named_by, is_value_name, is_plain_tag, has_value, three};
+ghost use Rattle.resolver.specs.Stands.{Fits, read_of, pass_of, set_of, array_of, named_by, is_value_name, plain_tag_of, has_value, three};
 
 use names::found::Reference;
 
@@ -194,7 +194,7 @@ pub fn named_words(tag: usize, r: Reference) -> NodeWords
 
 // The tag of a node without a name.
 fn plain_tag(tag: usize) -> u32
-    ensures { result ≡ is_plain_tag tag }
+    ensures { result ≡ plain_tag_of tag }
 {
     if tag == 0 {
         0
@@ -215,7 +215,7 @@ fn plain_tag(tag: usize) -> u32
 
 // Such a node; a number's first digit or an operator follows the tag of some.
 pub fn plain_words(tag: usize, value: usize) -> NodeWords
-    ensures { value < 4294967296 → three result ≡ (is_plain_tag tag ∷ pick (has_value tag) value 0 ∷ 0 ∷ []) }
+    ensures { value < 4294967296 → three result ≡ (plain_tag_of tag ∷ pick (has_value tag) value 0 ∷ 0 ∷ []) }
 {
     let first = if (tag == 0) | (tag == 2) | (tag == 6) {
         word(value)

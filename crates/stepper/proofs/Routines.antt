@@ -126,11 +126,11 @@ pub record Steps (row : List ℕ) (at words : ℕ) (p p1 p2 p3 p4 p5 : Row) (r :
   pub fourth_word : ℕ
   pub params_is : params ≡ get_or row at 0
   pub second_is : second ≡ min (at + 2) 18446744073709551615
-  pub vars-is : vars ≡ get_or row second 0
+  pub vars_is : vars ≡ get_or row second 0
   pub fourth_is : fourth ≡ min (at + 4) 18446744073709551615
   pub count_is : count ≡ get_or row fourth 0
   pub nodes_is : nodes ≡ min (at + 5) 18446744073709551615
-  pub base-is : base ≡ min (params + vars) 4294967295
+  pub base_is : base ≡ min (params + vars) 4294967295
   pub head : Pushed p p1 (params ∷ vars ∷ 0 ∷ [])
   pub zero1 : Pushed p1 p2 (0 ∷ [])
   pub body : BodyDone row nodes count base words p2 places steps p3
@@ -151,9 +151,9 @@ routine-is {p} {p1} {p2} {p3} {p4} {p5} row at words r s g h good short =
     let e4 : s.fourth ≡ at + 4 = let k = s.fourth_is in omega arith in
     let e5 : s.nodes ≡ at + 5 = let k = s.nodes_is in omega arith in
     let a : s.params ≡ g.params = s.params_is ∙ hd.params in
-    let v : s.vars ≡ g.vars = s.vars-is ∙ (ap (λ n. get_or row n 0) e2 ∙ hd.vars) in
+    let v : s.vars ≡ g.vars = s.vars_is ∙ (ap (λ n. get_or row n 0) e2 ∙ hd.vars) in
     let n : s.count ≡ length g.nodes = s.count_is ∙ (ap (λ n. get_or row n 0) e4 ∙ hd.count) in
-    let b : s.base ≡ base_of g = let k = s.base-is in omega arith in
+    let b : s.base ≡ base_of g = let k = s.base_is in omega arith in
     let done : BodyDone row s.nodes s.count (base_of g) words p2 s.places s.steps p3 = subst (λ k. BodyDone row s.nodes s.count k words p2 s.places s.steps p3) b s.body in
     let is = done.body g.nodes (has_to (sym e5) hd.nodes) n good.fit short in
     let d = is.places in

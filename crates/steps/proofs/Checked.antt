@@ -3,7 +3,7 @@ use Rattle.std.proofs.Common.{◌≡◌, ℕ, zero, suc, ◌+◌, ◌<◌, ◌�
 use mathlib.Core.Bool.{false≢true}
 use mathlib.Core.Option.{Option, some, none}
 use Rattle.std.proofs.lemmas.Bool.Decides.{nat_tests}
-use Rattle.language.specs.Syntax.{pick, opt, nth, Name, same, listed, Expr, num, var, bin, un, and1, or1, idx, len, call, by_table, input, Exprs, no as no-more-es, and_then, Stmt, set1, store1, ex1, out1, if1, while1, ret1, break1, next1, Block, end, seq1, Kind, k_word, k_arr, Param, Arr, Fn, Item, i_word, i_arr, i_data, i_table, i_fn, i_use, Prog}
+use Rattle.language.specs.Syntax.{pick, opt, nth, Name, same, listed, Expr, num, var, bin, un, and1, or1, idx, len, call, by_table, input, Exprs, no as no_more_es, and_then, Stmt, set1, store1, ex1, out1, if1, while1, ret1, break1, next1, Block, end, seq1, Kind, k_word, k_arr, Param, Arr, Fn, Item, i_word, i_arr, i_data, i_table, i_fn, i_use, Prog}
 use Rattle.language.specs.Meaning.{on_some, or_else, Is, is_word, is_arr, is_table, is_fn, Top, tops, words_in, arrays_in, all_tops, all_words, top_of, used_in, items_of, resolve, as_word, as_arr, as_fn, as_table, all_arrays, first_file, w_main}
 use Rattle.language.specs.Checks.{same_k, kind_is, in_params, in_arrs, kind_of, is_kind, any_arr, names_arr, names_in, fits_arg, no_more, fn_named, is_local, params_of, head_fn, params_of_table, same_ps, alike, ok_e, ok_es, ok_s, ok_b, ok_fn, ok_item, ok_is, ok_fs, ok, has_main, param_names, once, sizes, arr_names, file_names, totals}
 use Rattle.steps.specs.Steps.{Opnd, Step, s_ret, Act, MFn, MProg, MSt}
@@ -308,8 +308,8 @@ module _ (p : Prog) (goods : AllT (Good p) (all_tops p 0 0)) (f : Name) (g : Fn)
     wf_e input o = tt
 
     wf_es : (es : Exprs) (qs : List Param) → ok_es p f g qs es ≡ true → WfEs (env p) c es (kinds qs)
-    wf_es no-more-es [] o = tt
-    wf_es no-more-es (q ∷ qs) o = absurd (false≢true o)
+    wf_es no_more_es [] o = tt
+    wf_es no_more_es (q ∷ qs) o = absurd (false≢true o)
     wf_es (and_then e es) [] o = absurd (false≢true o)
     wf_es (and_then e es) (q ∷ qs) o = let s = and-true (fits_arg p f g e (ok_e p f g e) (some q.kind)) (ok_es p f g qs es) o in wf_arg e es q.kind (kinds qs) s.0 (wf_e e) (wf_es es qs s.1)
 

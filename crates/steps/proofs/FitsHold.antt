@@ -2,7 +2,7 @@
 use Rattle.std.proofs.Common.{◌≡◌, ℕ, suc, ◌+◌, ◌<◌, ◌≤◌, Bool, true, false, ◌&&◌, T, ltb, leb, List, [], ◌∷◌, length, sym, refl, ap, ◌∙◌, subst, arith, ltb→lt, leb→le, length-append}
 use mathlib.Core.Option.{Option, some, none}
 use lib.ListN.{length-replicate}
-use Rattle.language.specs.Syntax.{opt, Name, call, no as no-more-es, Kind, k_word, k_arr, Param, Arr, Fn, Item, i_word, i_arr, i_data, i_table, i_fn, i_use, Prog}
+use Rattle.language.specs.Syntax.{opt, Name, call, no as no_more_es, Kind, k_word, k_arr, Param, Arr, Fn, Item, i_word, i_arr, i_data, i_table, i_fn, i_use, Prog}
 use Rattle.language.specs.Words.{all}
 use Rattle.language.specs.Meaning.{Top, arrays_in, all_tops, all_arrays, as_fn, names_of, first_file, w_main}
 use Rattle.language.specs.Checks.{ok_fn, ok_item, ok_is, ok_fs, ok, once, sizes, words_ok, names_in, file_names, has_main, total, totals}
@@ -77,7 +77,7 @@ module _ (p : Prog) (o : ok p ≡ true) where
       go (some g) e h = (fn_fits t.file g (fn-ok p t g t.is refl q e), h)
 
   boot_fits : FnFits (gen_prog p) (boot p)
-  boot_fits = record { steps = each_++ (StepFits (gen_prog p) (boot p)) (gen_e (scope p (first_file p) []) (call w_main no-more-es) 0 0) (s_ret 0 ∷ []) (fits_e (env p) (linked p o) (record { file = first_file p; Γ = scope p (first_file p) []; j = record { fn = 0; arrs = [] }; G = boot p; ws = wides (all_arrays p) }) (omega arith) (call w_main no-more-es) 0 0 (main_fn p o).wf (omega arith) (omega arith) (omega arith)) (omega arith, tt); some_places = omega arith; sizes = tt }
+  boot_fits = record { steps = each_++ (StepFits (gen_prog p) (boot p)) (gen_e (scope p (first_file p) []) (call w_main no_more_es) 0 0) (s_ret 0 ∷ []) (fits_e (env p) (linked p o) (record { file = first_file p; Γ = scope p (first_file p) []; j = record { fn = 0; arrs = [] }; G = boot p; ws = wides (all_arrays p) }) (omega arith) (call w_main no_more_es) 0 0 (main_fn p o).wf (omega arith) (omega arith) (omega arith)) (omega arith, tt); some_places = omega arith; sizes = tt }
 
 words_small : (w : Bool) (ns : List ℕ) → words_ok w ns ≡ true → Each Small ns
 words_small w [] e = tt

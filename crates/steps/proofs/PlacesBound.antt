@@ -73,7 +73,7 @@ between n w o Between.right = ((refl, refl), omega arith)
 
 before : (w : Name) (o : ℕ) → Before w o → Plain w
 before w o Before.minus_before = (refl, refl)
-before w o Before.not-before = (refl, refl)
+before w o Before.not_before = (refl, refl)
 before w o Before.flip_before = (refl, refl)
 
 -- at most 8 arguments

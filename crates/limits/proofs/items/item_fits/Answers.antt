@@ -2,7 +2,7 @@
 use Rattle.std.proofs.Common.{◌≡◌, ap, ◌∙◌, arith}
 use Rattle.language.specs.Syntax.{i_arr, i_data, i_fn}
 use Rattle.rows.proofs.Having.{has-next, has_to}
-use Rattle.limits.specs.Within.{size-within, item_within}
+use Rattle.limits.specs.Within.{size_within, item_within}
 use Rattle.limits.proofs.Places.{item_tail, only-array, only_data, only-fn}
 use Rattle.limits.proofs.ItemLaws.{within-others}
 use Rattle.limits.proofs.items.item_fits.Goals as goal
@@ -11,7 +11,7 @@ pub returns-then-kind-eq-ARRAY : goal.returns-then-kind-eq-ARRAY
 returns-then-kind-eq-ARRAY c =
     only-array (λ i. c.size_fits.result ≡ item_within i) c.at-kind.ensures.is c.if-kind-eq-ARRAY.true
     (λ b h. let t = item_tail (omega arith) c.saturating_add.ensures c.past_name-tail.ensures (i_arr b) h in
-    c.size_fits.ensures ∙ ap (size-within 65536) (c.number_at.ensures b.size (has_to (omega (arith, t.inside)) (has-next t))))
+    c.size_fits.ensures ∙ ap (size_within 65536) (c.number_at.ensures b.size (has_to (omega (arith, t.inside)) (has-next t))))
 
 pub returns-then-kind-eq-DATA : goal.returns-then-kind-eq-DATA
 returns-then-kind-eq-DATA c =

@@ -2,7 +2,7 @@ use Rattle.std.proofs.Common.{ℕ, [], ◌∷◌, sym, ap, ◌∙◌, arith}
 use Rattle.language.specs.Syntax.{pick}
 use Rattle.generator.specs.ResolvedRows.{node_words}
 use Rattle.names.proofs.NodeEffects.{tag_is}
-use Rattle.resolver.specs.Stands.{is_value_name, named_by, is_plain_tag, has_value}
+use Rattle.resolver.specs.Stands.{is_value_name, named_by, plain_tag_of, has_value}
 use Rattle.resolver.proofs.NodeSorts.{call_words_are, table_words_are, named_words_are, plain_words_are}
 use Rattle.resolver.proofs.node.resolved_node.Goals as goal
 
@@ -26,4 +26,4 @@ pub returns : goal.returns
 returns c = λ p f g t so ok hf hi h k.
     let et = c.at-tag.ensures.is ∙ tag_is t h in
     let v = c.at-2.result in
-    plain_words_are p f g (omega arith) c.saturating_add-second.ensures c.saturating_add-third.ensures t h k (λ q. c.if-tag-eq9.false (et ∙ q)) (λ q. c.if-tag-eq10.false (et ∙ q)) (sym (ap is_value_name et) ∙ sym c.if-names_value.ensures) c.at-2.ensures.is c.at-2.ensures.small (λ l. c.plain_words.ensures l ∙ ap (λ (n : ℕ). is_plain_tag n ∷ pick (has_value n) v 0 ∷ 0 ∷ []) et)
+    plain_words_are p f g (omega arith) c.saturating_add-second.ensures c.saturating_add-third.ensures t h k (λ q. c.if-tag-eq9.false (et ∙ q)) (λ q. c.if-tag-eq10.false (et ∙ q)) (sym (ap is_value_name et) ∙ sym c.if-names_value.ensures) c.at-2.ensures.is c.at-2.ensures.small (λ l. c.plain_words.ensures l ∙ ap (λ (n : ℕ). plain_tag_of n ∷ pick (has_value n) v 0 ∷ 0 ∷ []) et)
