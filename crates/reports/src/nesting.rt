@@ -1,4 +1,6 @@
 // Where a text passes the limit of open brackets, or of signs in a row.
+ghost use Rattle.reports.specs.Nesting.{PastLimit};
+
 use crate::places::offset;
 use pieces::flat::{open_after, signs_after};
 use pieces::next_piece;
@@ -13,12 +15,14 @@ pub struct Refusal {
 }
 
 // The first piece that is one too many, if another stands behind it.
-pub fn past_limit(text: &[u8]) -> Option<Refusal> {
+pub fn past_limit(text: &[u8]) -> Option<Refusal>
+    ensures { PastLimit text.now result }
+{
     let mut rest = text;
     let mut last = text;
     let mut open = 0;
     let mut signs = 0;
-    for _ in 0..text.len() {
+    loop {
         let (piece, behind) = next_piece(rest);
         if let Piece::End = piece {
             return None;
@@ -40,5 +44,4 @@ pub fn past_limit(text: &[u8]) -> Option<Refusal> {
         last = rest;
         rest = behind;
     }
-    None
 }

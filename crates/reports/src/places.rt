@@ -1,4 +1,6 @@
 // Places in the text: where an item begins, and where one of its pieces stands.
+ghost use Rattle.std.specs.Prelude.{◌≤◌, length};
+
 use pieces::piece::Piece;
 use pieces::refused::{Reason, refuse};
 use pieces::{is_name, next_piece, number, same_word};
@@ -59,7 +61,9 @@ pub fn left_of(text: &[u8]) -> usize {
 }
 
 // The byte offset of the first piece of what is left of a text.
-pub fn offset(text: &[u8], rest: &[u8]) -> usize {
+pub fn offset(text: &[u8], rest: &[u8]) -> usize
+    ensures { result ≤ length text.now }
+{
     text.len().saturating_sub(left_of(rest))
 }
 
