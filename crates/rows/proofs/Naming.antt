@@ -1,7 +1,14 @@
--- Names compared word by word.
-use Rattle.std.proofs.Common.{◌≡◌, ℕ, suc, ◌+◌, ◌<◌, ◌≤◌, Bool, true, false, ◌&&◌, eqb, List, [], ◌∷◌, length, get_or, drop, refl, ap, ◌∙◌, ap₂, eq-eqb, ne_eqb}
+-- Names compared as the library compares slices, and word by word.
+use Rattle.std.proofs.Common.{◌≡◌, ℕ, suc, ◌+◌, ◌<◌, ◌≤◌, Bool, true, false, ◌&&◌, eqb, [], ◌∷◌, List, length, get_or, drop, refl, ap, ◌∙◌, ap₂, eq-eqb, ne_eqb}
 use Rattle.std.proofs.lemmas.List.{drop_more, drop_all}
+use lib.Pointwise.{pointwise}
 use Rattle.language.specs.Syntax.{Name, same}
+
+pub same_pointwise : (x y : Name) → pointwise eqb x y ≡ same x y
+same_pointwise [] [] = refl
+same_pointwise [] (b ∷ y) = refl
+same_pointwise (a ∷ x) [] = refl
+same_pointwise (a ∷ x) (b ∷ y) = ap (λ (t : Bool). eqb a b && t) (same_pointwise x y)
 
 -- names of other lengths are others
 pub same-long : (x y : Name) → (length x ≡ length y → ⊥) → same x y ≡ false

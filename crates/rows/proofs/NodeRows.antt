@@ -1,40 +1,16 @@
--- A token's row: its tag, its numbers, its name.
+-- A node's row: its tag, its numbers, its name.
 use Rattle.std.proofs.Common.{◌≡◌, ℕ, ◌+◌, ◌/◌, ◌%◌, ◌<◌, min, Bool, true, false, List, [], ◌∷◌, ◌++◌, length, get_or, sym, refl, ap, ◌∙◌, arith, length-append}
 use mathlib.Core.Option.{Option, some, none}
 use Rattle.language.specs.Syntax.{Name}
 use Rattle.rows.specs.Has.{Has, named}
-use Rattle.rows.specs.NodeTags.{lead, has_name}
+use Rattle.rows.specs.declared.tag.Tag.{Tag}
+use Rattle.rows.specs.NodeTags.{tag_of, tag_no, lead, has_name}
 use Rattle.rows.specs.Nodes.{Node, node_row, n_num, n_var, n_bin, n_and, n_or, n_join, n_un, n_idx, n_len, n_call, n_by, n_in, n_set, n_store, n_ex, n_out, n_if, n_else, n_fi, n_loop, n_while, n_again, n_ret, n_break, n_next, n_end, n_arg}
 use Rattle.rows.proofs.Having.{has_word, has_right, has_to, has_as}
 
-tag : Node → ℕ
-tag (n_num n) = 0
-tag (n_var x) = 1
-tag (n_bin o) = 2
-tag n_and = 3
-tag n_or = 4
-tag n_join = 5
-tag (n_un o) = 6
-tag (n_idx x) = 7
-tag (n_len x) = 8
-tag (n_call n x) = 9
-tag (n_by n x) = 10
-tag n_in = 11
-tag (n_set x) = 12
-tag (n_store x) = 13
-tag n_ex = 14
-tag n_out = 15
-tag n_if = 16
-tag n_else = 17
-tag n_fi = 18
-tag n_loop = 19
-tag n_while = 20
-tag n_again = 21
-tag n_ret = 22
-tag n_break = 23
-tag n_next = 24
-tag n_end = 25
-tag (n_arg x) = 26
+-- the number that a node's row begins with
+abbrev tag : Node → ℕ
+tag t = tag_no (tag_of t)
 
 front : Node → List ℕ
 front (n_num n) = (n % 4294967296) ∷ (n / 4294967296) ∷ []
@@ -103,7 +79,7 @@ is-named none = false
 is-named (some x) = true
 
 parts : (t : Node) → node_row t ≡ (tag t ∷ front t) ++ back-row (back t)
-unfolding tag front back back-row is-named
+unfolding front back back-row is-named
 parts (n_num n) = refl
 parts (n_var x) = refl
 parts (n_bin o) = refl
@@ -133,7 +109,7 @@ parts n_end = refl
 parts (n_arg x) = refl
 
 long : (t : Node) → length (tag t ∷ front t) ≡ lead (tag t)
-unfolding tag front back back-row is-named
+unfolding front back back-row is-named
 long (n_num n) = refl
 long (n_var x) = refl
 long (n_bin o) = refl
@@ -163,7 +139,7 @@ long n_end = refl
 long (n_arg x) = refl
 
 ends : (t : Node) → is-named (back t) ≡ has_name (tag t)
-unfolding tag front back back-row is-named
+unfolding front back back-row is-named
 ends (n_num n) = refl
 ends (n_var x) = refl
 ends (n_bin o) = refl
@@ -192,29 +168,32 @@ ends n_next = refl
 ends n_end = refl
 ends (n_arg x) = refl
 
-module _ {w : List ℕ} {i r j : ℕ} (t : Node) (small : length w < 18446744073709551616) (rd : r ≡ get_or w i 0) (sum : j ≡ min (i + lead r) 18446744073709551615) (h : Has w i (node_row t)) where
-  at_back : Has w j (back-row (back t)) × (length (node_row t) + i ≡ length (back-row (back t)) + j) × (has_name r ≡ is-named (back t))
+pub node_tag : {w : List ℕ} {i : ℕ} (t : Node) → Has w i (node_row t) → get_or w i 0 ≡ tag_no (tag_of t)
+node_tag {w} {i} t h = has_word (has_as (parts t) h)
+
+module _ {w : List ℕ} {i j : ℕ} {tag_read : Tag} (t : Node) (small : length w < 18446744073709551616) (rd : tag_read ≡ tag_of t) (sum : j ≡ min (i + lead (tag_no tag_read)) 18446744073709551615) (h : Has w i (node_row t)) where
+  at_back : Has w j (back-row (back t)) × (length (node_row t) + i ≡ length (back-row (back t)) + j) × (has_name (tag_no tag_read) ≡ is-named (back t))
   at_back =
       let h1 = has_as (parts t) h in
-      let rt : r ≡ tag t = rd ∙ has_word h1 in
-      let lr : lead r ≡ length (tag t ∷ front t) = ap lead rt ∙ sym (long t) in
+      let rt : tag_no tag_read ≡ tag t = ap tag_no rd in
+      let lr : lead (tag_no tag_read) ≡ length (tag t ∷ front t) = ap lead rt ∙ sym (long t) in
       let la = length-append (tag t ∷ front t) (back-row (back t)) in
       let ej : i + length (tag t ∷ front t) ≡ j = omega (arith, h1.inside) in
       let lt : length (node_row t) ≡ length (tag t ∷ front t) + length (back-row (back t)) = ap length (parts t) ∙ la in
       (has_to ej (has_right (tag t ∷ front t) (back-row (back t)) h1), omega arith, ap has_name rt ∙ sym (ends t))
 
-  pub past_named : {q : ℕ} → has_name r ≡ true → ((x : Name) → Has w j (named x) → q ≡ j + (length x + 1)) → q ≡ i + length (node_row t)
+  pub past_named : {q : ℕ} → has_name (tag_no tag_read) ≡ true → ((x : Name) → Has w j (named x) → q ≡ j + (length x + 1)) → q ≡ i + length (node_row t)
   unfolding back-row is-named
   past_named {q} e to = go (back t) at_back.0 at_back.1 at_back.2
     where
-      go : (o : Option Name) → Has w j (back-row o) → length (node_row t) + i ≡ length (back-row o) + j → has_name r ≡ is-named o → q ≡ i + length (node_row t)
+      go : (o : Option Name) → Has w j (back-row o) → length (node_row t) + i ≡ length (back-row o) + j → has_name (tag_no tag_read) ≡ is-named o → q ≡ i + length (node_row t)
       go none hr l n = let z : true ≡ false = sym e ∙ n in let y : ◌≡◌ {A = ℕ} 0 1 = cc in absurd (omega arith)
       go (some x) hr l n = omega (arith, to x hr)
 
-  pub past_bare : has_name r ≡ false → j ≡ i + length (node_row t)
+  pub past_bare : has_name (tag_no tag_read) ≡ false → j ≡ i + length (node_row t)
   unfolding back-row is-named
   past_bare e = go (back t) at_back.1 at_back.2
     where
-      go : (o : Option Name) → length (node_row t) + i ≡ length (back-row o) + j → has_name r ≡ is-named o → j ≡ i + length (node_row t)
+      go : (o : Option Name) → length (node_row t) + i ≡ length (back-row o) + j → has_name (tag_no tag_read) ≡ is-named o → j ≡ i + length (node_row t)
       go none l n = omega arith
       go (some x) l n = let z : true ≡ false = sym n ∙ e in let y : ◌≡◌ {A = ℕ} 0 1 = cc in absurd (omega arith)

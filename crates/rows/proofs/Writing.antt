@@ -20,8 +20,11 @@ wrote_none o = record { grown = sym (append-nil (written o)); long = omega arith
 pub wrote-take : {o p q : Row} (w : List ℕ) (i : ℕ) → i < length w → Wrote o p (take i w) → Wrote p q (get_or w i 0 ∷ []) → Wrote o q (take (i + 1) w)
 wrote-take {o} {p} {q} w i h f g = subst (Wrote o q) (sym (take_more w i 0 h)) (wrote-more f g)
 
+pub wrote_whole : {o p : Row} (w : List ℕ) (i : ℕ) → length w ≤ i → Wrote o p (take i w) → Wrote o p w
+wrote_whole {o} {p} w i h f = subst (Wrote o p) (take_all i w h) f
+
 pub wrote-all : {o p q : Row} (w : List ℕ) (i : ℕ) → length w ≤ i → Wrote o p (length w ∷ []) → Wrote p q (take i w) → Wrote o q (named w)
-wrote-all {o} {p} {q} w i h f g = wrote-more f (subst (Wrote p q) (take_all i w h) g)
+wrote-all {o} {p} {q} w i h f g = wrote-more f (wrote_whole w i h g)
 
 put-behind : (s a b : List ℕ) (x v : ℕ) (n : ℕ) → n ≡ length s + length a → put (s ++ (a ++ (x ∷ b))) n v ≡ s ++ (a ++ (v ∷ b))
 put-behind [] [] b x v zero e = refl
@@ -60,3 +63,9 @@ pushed_more {o} {p} {q} {ws} {vs} f g = record {
 
 pub pushed_none : (o : Row) → Pushed o o []
 pushed_none o = record { wrote = λ h. wrote_none o; kept = refl; same = refl }
+
+pub pushed_take : {o p q : Row} (w : List ℕ) (i : ℕ) → i < length w → Pushed o p (take i w) → Pushed p q (get_or w i 0 ∷ []) → Pushed o q (take (i + 1) w)
+pushed_take {o} {p} {q} w i h f g = subst (Pushed o q) (sym (take_more w i 0 h)) (pushed_more f g)
+
+pub pushed_whole : {o p : Row} (w : List ℕ) (i : ℕ) → length w ≤ i → Pushed o p (take i w) → Pushed o p w
+pushed_whole {o} {p} w i h f = subst (Pushed o p) (take_all i w h) f

@@ -3,9 +3,11 @@
 
 ghost use Rattle.rows.specs.Trees.{BodiesNodes};
 
+pub mod kind;
 mod put;
 pub mod read;
 pub mod row;
+pub mod tag;
 
 // The row of a function's body is that of its nodes.
 pub fn bodies_are_nodes() -> bool

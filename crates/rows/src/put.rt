@@ -14,6 +14,16 @@ impl Row<'_> {
         self.len += 1;
     }
 
+    // Some words, one behind another.
+    pub fn put_all(&mut self, words: &[u32])
+        requires { self.old.len + length words.now ≤ length self.old.words.now }
+        ensures { Wrote self.old self.new words.now }
+    {
+        for word in words {
+            self.put(*word);
+        }
+    }
+
     pub fn put2(&mut self, a: u32, b: u32)
         requires { self.old.len + 2 ≤ length self.old.words.now }
         ensures { Wrote self.old self.new (a ∷ b ∷ []) }
@@ -37,10 +47,8 @@ impl Row<'_> {
         ensures { Wrote self.old self.new (named w.now) }
     {
         self.put(w.len() as u32);
-        let mut i = 0;
-        while i < w.len() {
-            self.put(w[i] as u32);
-            i += 1;
+        for byte in w {
+            self.put(*byte as u32);
         }
     }
 
@@ -50,6 +58,14 @@ impl Row<'_> {
     {
         if self.len < self.words.len() {
             self.put(a);
+        }
+    }
+
+    pub fn push_all(&mut self, words: &[u32])
+        ensures { Pushed self.old self.new words.now }
+    {
+        for word in words {
+            self.push(*word);
         }
     }
 

@@ -3,33 +3,63 @@ ghost use Rattle.std.specs.Prelude.{◌≡◌, ℕ, ◌+◌, ◌^◌, ◌<◌, �
 ghost use Rattle.language.specs.Syntax.{Name, Item, same};
 ghost use Rattle.rows.specs.Has.{Has, named};
 ghost use Rattle.rows.specs.Nodes.{Node, node_row};
-ghost use Rattle.rows.specs.NodeTags.{lead, has_name};
-ghost use Rattle.rows.specs.Trees.{rest_row, item_row};
+ghost use Rattle.rows.specs.NodeTags.{tag_of};
+ghost use Rattle.rows.specs.Kinds.{kind_of_item, local_kind};
+ghost use Rattle.rows.specs.Trees.{rest_row, item_row, Local, local_row};
+
+use super::kind::{ItemKind, LocalKind};
+use super::tag::Tag;
 
 // The word at a place; 0 behind the row's end.
+pub fn word_at(row: &[u32], i: usize) -> u32
+    ensures { result ≡ slice_index row.now i }
+{
+    row.get(i).copied().unwrap_or(0)
+}
+
+// The same as a place or a count.
 pub fn at(row: &[u32], i: usize) -> usize
     ensures is { result ≡ slice_index row.now i }
     ensures small { result < 2 ^ 32 }
 {
-    if i < row.len() { row[i] as usize } else { 0 }
+    word_at(row, i) as usize
+}
+
+// The tag of the node at a place.
+pub fn tag_at(row: &[u32], i: usize) -> Tag
+    ensures { (t : Node) → Has row.now i (node_row t) → result ≡ tag_of t }
+{
+    Tag::try_from(word_at(row, i)).unwrap_or(Tag::End)
+}
+
+// The kind of the item at a place.
+pub fn item_kind_at(row: &[u32], i: usize) -> ItemKind
+    ensures { (item : Item) → Has row.now i (item_row item) → result ≡ kind_of_item item }
+{
+    ItemKind::try_from(word_at(row, i)).unwrap_or(ItemKind::Use)
+}
+
+// The kind of a function's name at a place.
+pub fn local_kind_at(row: &[u32], i: usize) -> LocalKind
+    ensures { (l : Local) → Has row.now i (local_row l) → result ≡ local_kind l.kind }
+{
+    LocalKind::try_from(word_at(row, i)).unwrap_or(LocalKind::Words)
+}
+
+// The letters of the name at a place.
+pub fn name_at(row: &[u32], i: usize) -> &[u32]
+    ensures { (x : Name) → Has row.now i (named x) → result.now ≡ x }
+{
+    let start = i.saturating_add(1);
+    row.get(start..start.saturating_add(at(row, i)))
+        .unwrap_or(&[])
 }
 
 // Whether two names of a row are the same.
 pub fn same_at(row: &[u32], i: usize, j: usize) -> bool
     ensures { (x y : Name) → Has row.now i (named x) → Has row.now j (named y) → result ≡ same x y }
 {
-    let n = at(row, i);
-    if n != at(row, j) {
-        return false;
-    }
-    let mut k = 1;
-    while k <= n {
-        if at(row, i.saturating_add(k)) != at(row, j.saturating_add(k)) {
-            return false;
-        }
-        k += 1;
-    }
-    true
+    name_at(row, i) == name_at(row, j)
 }
 
 // The place behind the name at a place.
@@ -46,42 +76,11 @@ pub fn past_item(row: &[u32], item: usize) -> usize
     item.saturating_add(2 + at(row, item.saturating_add(1)))
 }
 
-// How many words a node has, but for a name.
-fn lead_of(tag: usize) -> usize
-    ensures { result ≡ lead tag }
-{
-    if tag == 0 {
-        3
-    } else if (tag == 2) | (tag == 6) | (tag == 9) | (tag == 10) {
-        2
-    } else {
-        1
-    }
-}
-
-// Whether a node ends in a name.
-fn ends_in_name(tag: usize) -> bool
-    ensures { result ≡ has_name tag }
-{
-    (tag == 1)
-        | (tag == 7)
-        | (tag == 8)
-        | (tag == 9)
-        | (tag == 10)
-        | (tag == 12)
-        | (tag == 13)
-        | (tag == 26)
-}
-
 // The place behind a node.
 pub fn past_node(row: &[u32], i: usize) -> usize
     ensures { (t : Node) → Has row.now i (node_row t) → result ≡ i + length (node_row t) }
 {
-    let tag = at(row, i);
-    let j = i.saturating_add(lead_of(tag));
-    if ends_in_name(tag) {
-        past_name(row, j)
-    } else {
-        j
-    }
+    let tag = tag_at(row, i);
+    let j = i.saturating_add(tag.lead());
+    if tag.has_name() { past_name(row, j) } else { j }
 }
