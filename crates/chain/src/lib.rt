@@ -18,7 +18,7 @@ ghost use Rattle.assembler.specs.Assembled.{Assembled};
 
 use assembler::assemble;
 use lower::Built;
-use reader::{Reading, read};
+use front::{Reading, read};
 use rows::row::Row;
 use stepper::write_steps;
 

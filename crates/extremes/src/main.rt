@@ -3,7 +3,7 @@
 #![tactic(auto)]
 
 use anyhow::anyhow;
-use reader::{Reading, read};
+use front::{Reading, read};
 use reports::explain;
 use reports::words::words_for;
 use std::alloc::Global;

@@ -1,5 +1,5 @@
 -- The two halves of the checks are the checks, and what a text reads as by what the parser and the checks say.
-use Rattle.std.proofs.Common.{◌≡◌, ℕ, ◌≤◌, Bool, true, false, not, ◌&&◌, T, ltb, List, [], ◌∷◌, sym, refl, ap, ◌∙◌, subst, ap₂, true≢false, nltb→le}
+use Rattle.std.proofs.Common.{◌≡◌, ℕ, ◌≤◌, Bool, true, false, not, ◌&&◌, T, ltb, leb, List, [], ◌∷◌, length, sym, refl, ap, ◌∙◌, subst, ap₂, true≢false, leb→le, nltb→le}
 use mathlib.Core.Option.{Option, some, none}
 use Rattle.language.specs.Syntax.{pick, Name, Item, i_word, i_arr, i_data, i_table, i_fn, i_use, Prog}
 use Rattle.language.specs.Checks.{ok, has_main}
@@ -7,7 +7,7 @@ use Rattle.grammar.specs.Text.{pieces, gap}
 use Rattle.grammar.specs.Parse.{got}
 use Rattle.grammar.specs.ParseAll.{parse}
 use Rattle.grammar.specs.Reading.{small, reading}
-use Rattle.grammar.proofs.PieceKinds.{true_of}
+use Rattle.grammar.proofs.PieceKinds.{true_of, and_0}
 use Rattle.grammar.proofs.Reading.{reading-sound}
 use Rattle.limits.specs.Split.{item_resolved as item_l, items_resolved as items_l, files_resolved as files_l, resolved as resolved_l}
 use Rattle.names.specs.Resolved.{item_resolved, items_resolved, files_resolved, resolved}
@@ -51,3 +51,7 @@ enough w n e f = go (ltb w n) refl (sym e ∙ f)
     go : (c : Bool) → ltb w n ≡ c → ltb w n ≡ false → n ≤ w
     go true g h = absurd (true≢false (sym g ∙ h))
     go false g h = nltb→le w n (subst (λ (c : Bool). T (not c)) (sym g) tt)
+
+-- a text that is read has few bytes
+pub bytes-few : (t : List ℕ) → T (small t) → length t ≤ 32768
+bytes-few t h = leb→le (length t) 32768 (and_0 (leb (length t) 32768) _ h)

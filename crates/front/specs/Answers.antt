@@ -1,41 +1,49 @@
 -- What `read` answers for a text: with too few work words nothing is looked at; else the text is no program, or the row of the one program
 -- that it is stands in the work words, and its stage is known.
-use Rattle.std.specs.Prelude.{◌≡◌, ℕ, ◌+◌, ◌*◌, ◌<◌, ◌≤◌, T, List, [], length, take, MatchOption}
+use Rattle.std.specs.Prelude.{◌≡◌, ℕ, ◌+◌, ◌*◌, ◌<◌, ◌≤◌, T, List, [], length, take, Result, Ok, Err, MatchResult}
 use Rattle.std.proofs.Math.Option.{some, none}
-use Rattle.std.specs.declared.option.Option as std
 use Rattle.language.specs.Syntax.{Prog, stage}
-use Rattle.grammar.specs.Text.{pieces, gap}
+use Rattle.grammar.specs.Text.{pieces, gap, AreFiles}
 use Rattle.grammar.specs.Parse.{got}
 use Rattle.grammar.specs.ParseAll.{parse}
 use Rattle.grammar.specs.Reading.{small, reading}
+use Rattle.pieces.specs.declared.refused.Refused.{Refused}
+use Rattle.parser.specs.Programs.{Unread}
 use Rattle.rows.specs.Trees.{prog_row}
+use Rattle.generator.specs.ResolvedRows.{resolved_words, resolve_prog}
 use Rattle.front.specs.declared.Tree.{Tree}
-use Rattle.front.specs.declared.Reading.{Reading}
-use Rattle.front.specs.declared.Reading.TheVariants.{Few, NoProgram, Program}
+use Rattle.front.specs.declared.Unreadable.{Unreadable}
+use Rattle.front.specs.declared.Unreadable.TheVariants.{Few, NoProgram}
 
 -- how many work words a text asks for
 abbrev pub work_words : List ℕ → ℕ
 work_words t = 65536 + 16 * length t
 
--- the one program that reads as the text, its row and its stage
+-- the first n words
+abbrev pub Begins : List ℕ → ℕ → List ℕ → Type 0
+Begins w n ws = take n w ≡ ws
+
+-- the one program that reads as the text, its row and its stage, and the program with its names resolved
 pub record IsProgram (t : List ℕ) (tree : Tree) : Type 0 where
   pub program : Prog
   pub read_as : reading t ≡ some program
   pub row_is : tree.row.now ≡ prog_row program
   pub stage_is : tree.stage ≡ stage program
+  pub resolved_is : tree.resolved.now ≡ resolved_words (resolve_prog program)
 
 -- a text as the model parser reads it, and the row of its tree in the first n words
 pub record IsParsed (t w : List ℕ) (n : ℕ) : Type 0 where
   pub program : Prog
+  pub said : AreFiles (pieces gap t) program
   pub parsed : parse (pieces gap t) ≡ got program []
   pub fits : T (small t)
   pub row_is : take n w ≡ prog_row program
   pub inside : n ≤ length w
 
-abbrev pub ParsedTo : List ℕ → List ℕ → std.Option ℕ → Type 0
-ParsedTo t w r = MatchOption r (reading t ≡ none) (IsParsed t w)
+abbrev pub ParsedTo : List ℕ → List ℕ → Result ℕ Refused → Type 0
+ParsedTo t w r = MatchResult r (IsParsed t w) (λ _. Unread t)
 
-abbrev pub ReadSays : List ℕ → ℕ → Reading → Type 0
-ReadSays t w Few = w < work_words t
-ReadSays t w NoProgram = (work_words t ≤ w) × (reading t ≡ none)
-ReadSays t w (Program tree) = (work_words t ≤ w) × IsProgram t tree
+abbrev pub ReadSays : List ℕ → ℕ → Result Tree Unreadable → Type 0
+ReadSays t w (Ok tree) = (work_words t ≤ w) × IsProgram t tree × (length tree.rest.now + (7 * length t + 5) ≡ w)
+ReadSays t w (Err Few) = w < work_words t
+ReadSays t w (Err NoProgram) = (work_words t ≤ w) × (reading t ≡ none)

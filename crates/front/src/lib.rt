@@ -1,32 +1,48 @@
 // The reading half of the compiler: a text of any bytes is answered exactly as the definitions answer it.
 #![tactic(auto)]
 
-ghost use Rattle.std.specs.Prelude.{◌≡◌, ◌+◌, ◌*◌, ◌<◌, ◌≤◌, ◌&&◌, length, nat_lt};
+ghost use Rattle.std.specs.Prelude.{◌≡◌, ◌+◌, ◌*◌, ◌<◌, ◌≤◌, true, ◌&&◌, length, nat_lt};
 ghost use Rattle.language.specs.Syntax.{Prog};
 ghost use Rattle.language.specs.Checks.{ok};
 ghost use Rattle.rows.specs.Trees.{prog_row};
-ghost use Rattle.front.specs.Answers.{ParsedTo, ReadSays};
+ghost use Rattle.generator.specs.ResolvedRows.{resolved_words, resolve_prog};
+ghost use Rattle.front.specs.Answers.{ParsedTo, ReadSays, Begins};
 
 use limits::{fits, stage};
 use names::items::check_names;
 use parser::parse;
+use pieces::refused::Refused;
+use resolver::resolve_program;
 use rows::row::Row;
+use std::error::Error;
+use std::fmt;
 
-// A program's stage, its row in the lent words, and the words that are left.
+// A program's stage, its row in the lent words, the same with its names resolved, and the words that are left.
 #[derive(Drop)]
 pub struct Tree<'a> {
     pub stage: u32,
     pub row: &'a [u32],
+    pub resolved: &'a [u32],
     pub rest: &'a mut [u32],
 }
 
-// Too few work words; a text that is no program; or the tree of the one program that it is.
-#[derive(Drop)]
-pub enum Reading<'a> {
+// Why no program was read: there are too few work words, or the text is none.
+#[derive(Clone, Copy, Debug, PartialEq, Eq)]
+pub enum Unreadable {
     Few,
     NoProgram,
-    Program(Tree<'a>),
 }
+
+impl fmt::Display for Unreadable {
+    fn fmt<W: fmt::Write>(&self, f: &mut fmt::Formatter<W>) -> fmt::Result {
+        f.write_str(match self {
+            Unreadable::Few => "few",
+            Unreadable::NoProgram => "no program",
+        })
+    }
+}
+
+impl Error for Unreadable {}
 
 // Whether the program of a row passes all checks. The pile has room for as many words as the row.
 fn is_checked(row: &[u32], pile: &mut [u32]) -> bool
@@ -36,16 +52,25 @@ fn is_checked(row: &[u32], pile: &mut [u32]) -> bool
     fits(row) & check_names(row, pile)
 }
 
-// Writes the row of the program that a text is, before the checks, and says how many words it has.
-fn parse_row(text: &[u8], words: &mut [u32]) -> Option<usize>
+// Writes the row of the program that a text is, before the checks, and says how many words it has; or where and why there is none.
+pub fn parse_row(text: &[u8], words: &mut [u32]) -> Result<usize, Refused>
     requires { 4 * length text.now + 1 ≤ length words.old }
     ensures { ParsedTo text.now words.new result }
 {
     let mut out = Row { words, len: 0 };
-    match parse(text, &mut out) {
-        Ok(_) => Some(out.len),
-        Err(_) => None,
-    }
+    parse(text, &mut out)?;
+    Ok(out.len)
+}
+
+// Writes the program of a row with its names resolved, if there is room, and says how many words were written.
+fn resolve_row(row: &[u32], words: &mut [u32]) -> usize
+    ensures is { (p : Prog) → row.now ≡ prog_row p → ok p ≡ true → length row.now < 4294967296 → length (resolved_words (resolve_prog p)) ≤ length words.old → Begins words.new result (resolved_words (resolve_prog p)) }
+    ensures inside { result ≤ length words.new }
+    ensures kept { length words.new ≡ length words.old }
+{
+    let mut out = Row { words, len: 0 };
+    resolve_program(row, &mut out);
+    out.len
 }
 
 // Whether there are fewer work words than 65,536 and 16 for each byte.
@@ -56,23 +81,26 @@ fn is_few(words: usize, bytes: usize) -> bool
 }
 
 // Reads a text, with work words that its row is written to.
-pub fn read<'a>(text: &[u8], work: &'a mut [u32]) -> Reading<'a>
+pub fn read<'a>(text: &[u8], work: &'a mut [u32]) -> Result<Tree<'a>, Unreadable>
     ensures { ReadSays text.now (length work.old) result }
 {
     if is_few(work.len(), text.len()) {
-        return Reading::Few;
+        return Err(Unreadable::Few);
     }
     let (words, rest) = work.split_at_mut(4 * text.len() + 1);
-    let Some(n) = parse_row(text, words) else {
-        return Reading::NoProgram;
+    let Ok(n) = parse_row(text, words) else {
+        return Err(Unreadable::NoProgram);
     };
     let row = &words[..n];
     if !is_checked(row, rest) {
-        return Reading::NoProgram;
+        return Err(Unreadable::NoProgram);
     }
-    Reading::Program(Tree {
+    let (names, rest) = rest.split_at_mut(3 * text.len() + 4);
+    let resolved = resolve_row(row, names);
+    Ok(Tree {
         stage: stage(row),
         row,
+        resolved: &names[..resolved],
         rest,
     })
 }
@@ -80,35 +108,25 @@ pub fn read<'a>(text: &[u8], work: &'a mut [u32]) -> Reading<'a>
 #[cfg(test)]
 mod tests {
     use super::*;
-    use std::test::Fail;
 
     // The stage of a text of at most 1,024 bytes that is a program.
     fn stage_of(text: &[u8]) -> Option<u32> {
         let mut work = [0; 81920];
         match read(text, &mut work) {
-            Reading::Program(tree) => Some(tree.stage),
-            _ => None,
+            Ok(tree) => Some(tree.stage),
+            Err(_) => None,
         }
     }
 
     fn is_no_program(text: &[u8]) -> bool {
         let mut work = [0; 81920];
-        match read(text, &mut work) {
-            Reading::NoProgram => true,
-            _ => false,
-        }
+        matches!(read(text, &mut work), Err(Unreadable::NoProgram))
     }
 
     #[test]
-    fn tells_few_words(rt: HostRuntime) -> Result<(), Fail> {
+    fn tells_few_words(rt: HostRuntime) {
         let mut work = [0; 65551];
-        match read(b"!", &mut work) {
-            Reading::Few => Ok(()),
-            _ => {
-                assert!(rt; false);
-                Ok(())
-            },
-        }
+        assert!(rt; matches!(read(b"!", &mut work), Err(Unreadable::Few)));
     }
 
     #[test]

@@ -7,7 +7,7 @@ use Rattle.language.specs.Syntax.{Prog}
 use Rattle.grammar.specs.Text.{pieces, gap, AreFiles}
 use Rattle.grammar.specs.Reading.{small, reading}
 use Rattle.parser.specs.Programs.{Unread}
-use Rattle.reader.specs.Answers.{work_words}
+use Rattle.front.specs.Answers.{work_words}
 use Rattle.reports.specs.declared.problem.Problem.{Problem}
 use Rattle.reports.specs.declared.problem.What.{What}
 use Rattle.reports.specs.declared.problem.What.TheVariants.{Reads, Fails}

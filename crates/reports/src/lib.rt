@@ -3,12 +3,12 @@
 
 ghost use Rattle.std.specs.Prelude.{◌+◌, ◌*◌, ◌≤◌, length, MatchResult};
 ghost use Rattle.parser.specs.Programs.{Unread};
-ghost use Rattle.reader.specs.Answers.{work_words};
+ghost use Rattle.front.specs.Answers.{work_words};
 ghost use Rattle.reports.specs.Explains.{Written, Of, Explains};
 
 use parser::parse;
 use pieces::refused::{Reason, Refused};
-use reader::{Reading, read};
+use front::{Reading, read};
 use rows::row::Row;
 
 mod body;

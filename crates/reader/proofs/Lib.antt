@@ -1,2 +1,0 @@
--- Lemmas for the reading half.
-pub mod Checked

@@ -1,2 +1,0 @@
--- What the reading half of the compiler answers.
-pub mod Answers
