@@ -1,0 +1,5 @@
+use Rattle.places.specs.Tails.{Tail}
+use Rattle.places.proofs.places.from_argument.Given as goal
+
+abbrev pub invariant-loop-cutting : goal.invariant-loop-cutting
+invariant-loop-cutting l = Tail l.text l.cutting-iterator.text.now

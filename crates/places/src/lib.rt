@@ -1,0 +1,8 @@
+// Places in a text, for messages: its pieces one after another, and where one of them stands.
+#![tactic(auto)]
+
+mod cuts;
+mod places;
+
+pub use cuts::{Cuts, Cutting, pieces_of};
+pub use places::{from_argument, from_item, from_piece, offset, past_pieces};
