@@ -1,75 +1,60 @@
 // What the command line asks for.
-use anyhow::anyhow;
+use anyhow::{Context, anyhow};
 use std::alloc::Global;
 use std::env;
 
 #[derive(Drop)]
-pub struct Request {
-    pub help: bool,
-    // the image's file, if it was named
+pub enum Request {
+    Help,
+    Build(Order),
+}
+
+// The files of a program, one at least, and the image's file, if it was named.
+#[derive(Drop)]
+pub struct Order {
     pub image: Option<String>,
     pub files: Vec<String>,
 }
 
 pub fn read_request(rt: &HostRuntime) -> anyhow::Result<Request> {
-    let heap = rt.alloc();
-    let mut request = Request {
-        help: false,
-        image: None,
-        files: Vec::new(heap),
-    };
-    let mut names_image = false;
-    for word in env::args(rt)?.skip(1) {
-        if names_image {
-            request.image = Some(word);
-            names_image = false;
-        } else if word.as_str() == "--help" {
-            request.help = true;
-        } else if word.as_str() == "-o" {
-            names_image = true;
-        } else if word.as_str().starts_with("-") {
-            return Err(anyhow!(format!(in heap;
-                "there is no option {word}; --help says which there are"
-            )?));
-        } else {
-            request.files.push(word)?;
+    let mut image: Option<String> = None;
+    let mut files = Vec::new(rt.alloc());
+    let mut help = false;
+    let mut words = env::args(rt)?.skip(1);
+    while let Some(word) = words.next() {
+        match word.as_str() {
+            "--help" => help = true,
+            "-o" => image = Some(words.next().context("-o: no file is named")?),
+            option if option.starts_with("-") => return Err(anyhow!(format!(in rt.alloc();
+                "there is no option {option}; --help says which there are"
+            )?)),
+            _ => files.push(word)?,
         }
     }
-    if names_image {
-        return Err(anyhow!("-o: no file is named"));
+    if help {
+        return Ok(Request::Help);
     }
-    if request.files.is_empty() && !request.help {
+    if files.is_empty() {
         return Err(anyhow!("no file is named; --help says how"));
     }
-    Ok(request)
+    Ok(Request::Build(Order { image, files }))
 }
 
-// How many bytes of a file's name stand before its ending: before the last point behind the last slash.
-fn stem(name: &[u8]) -> usize {
-    let mut end = name.len();
-    for i in 0..name.len() {
-        if name[i] == b'/' {
-            end = name.len();
-        } else if name[i] == b'.' {
-            end = i;
-        }
+// A file's name up to its ending: before the last point behind the last slash.
+fn stem(name: &str) -> &str {
+    match name.rsplit_once('.') {
+        Some((front, ending)) if !ending.contains('/') => front,
+        _ => name,
     }
-    end
 }
 
 // The image's file: the one that was named, or the first file's name with another ending.
-pub fn image_name(heap: Global, request: &Request) -> anyhow::Result<String> {
-    if let Some(name) = &request.image {
-        return Ok(name.clone()?);
+pub fn image_name(heap: Global, order: &Order) -> anyhow::Result<String> {
+    match &order.image {
+        Some(name) => Ok(name.clone()?),
+        None => {
+            let first = order.files.first().map_or("image", |file| stem(file.as_str()));
+            Ok(format!(in heap; "{first}.img")?)
+        }
     }
-    let Some(first) = request.files.first() else {
-        return Ok(format!(in heap; "image.img")?);
-    };
-    let name = first.as_str();
-    let cut = stem(name.as_bytes());
-    if name.is_char_boundary(cut) {
-        let start = &name[..cut];
-        return Ok(format!(in heap; "{start}.img")?);
-    }
-    Ok(format!(in heap; "{name}.img")?)
 }

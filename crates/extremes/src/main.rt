@@ -3,17 +3,16 @@
 #![tactic(auto)]
 
 use anyhow::anyhow;
-use front::{Reading, read};
+use front::{Unreadable, read};
 use reports::explain;
-use reports::words::words_for;
 use std::alloc::Global;
 use std::env;
 
 mod making;
 mod texts;
 
-use making::{limit_text, numbered_text, repeated, used_text};
-use texts::{KEYWORDS, LIMITS, Limit, NAMES, NUMBERED, Numbered, USED, WRITTEN};
+use making::{Growing, repeated, used_text};
+use texts::{KEYWORDS, LIMITS, NAMES, NUMBERED, USED, WRITTEN};
 
 const USAGE: &str = "usage: extremes [--times N | --uses N]
 
@@ -30,16 +29,16 @@ const ENOUGH: usize = 65872;
 fn tell(rt: &HostRuntime, name: &str, text: &[u8], work: &mut [u32]) -> anyhow::Result<()> {
     let size = text.len();
     match read(text, work) {
-        Reading::Few => println!(rt; "{name}, {size} bytes: few")?,
-        Reading::Program(tree) => {
+        Ok(tree) => {
             let stage = tree.stage;
             println!(rt; "{name}, {size} bytes: stage {stage}")?;
         }
-        Reading::NoProgram => {
+        Err(Unreadable::Few) => println!(rt; "{name}, {size} bytes: few")?,
+        Err(Unreadable::NoProgram) => {
             if let Some(problem) = explain(text, work) {
                 let at = problem.at;
-                let words = words_for(problem.what);
-                println!(rt; "{name}, {size} bytes: no program, at byte {at}: {words}")?;
+                let what = problem.what;
+                println!(rt; "{name}, {size} bytes: no program, at byte {at}: {what}")?;
             }
         }
     }
@@ -69,21 +68,11 @@ fn tell_keywords(rt: &HostRuntime, work: &mut [u32]) -> anyhow::Result<()> {
 }
 
 // A limit, and one more.
-fn tell_limit(rt: &HostRuntime, limit: &Limit, work: &mut [u32]) -> anyhow::Result<()> {
+fn tell_limit<G: Growing>(rt: &HostRuntime, parts: &G, work: &mut [u32]) -> anyhow::Result<()> {
     for more in 0..2 {
-        let times = limit.most.saturating_add(more);
-        let name = format!(in rt.alloc(); "{times} {}", limit.name)?;
-        let text = limit_text(rt.alloc(), limit, times)?;
-        tell(rt, name.as_str(), text.as_slice(), work)?;
-    }
-    Ok(())
-}
-
-fn tell_numbered(rt: &HostRuntime, parts: &Numbered, work: &mut [u32]) -> anyhow::Result<()> {
-    for more in 0..2 {
-        let times = parts.most.saturating_add(more);
-        let name = format!(in rt.alloc(); "{times} {}", parts.name)?;
-        let text = numbered_text(rt.alloc(), parts, times)?;
+        let times = parts.most().saturating_add(more);
+        let name = format!(in rt.alloc(); "{times} {}", parts.name())?;
+        let text = parts.text(rt.alloc(), times)?;
         tell(rt, name.as_str(), text.as_slice(), work)?;
     }
     Ok(())
@@ -136,7 +125,7 @@ fn tell_all(rt: &HostRuntime, work: &mut [u32]) -> anyhow::Result<()> {
         tell_limit(rt, limit, work)?;
     }
     for parts in &NUMBERED {
-        tell_numbered(rt, parts, work)?;
+        tell_limit(rt, parts, work)?;
     }
     tell_long(rt, work)?;
     let used = used_text(rt.alloc())?;
@@ -163,7 +152,7 @@ fn run(rt: &HostRuntime) -> anyhow::Result<()> {
     };
     let times = number.as_str().parse::<u32>()?;
     let text = match option.as_str() {
-        "--times" => numbered_text(heap, &NAMES, NAMES.most)?,
+        "--times" => NAMES.text(heap, NAMES.most)?,
         "--uses" => used_text(heap)?,
         _ => return Err(anyhow!(USAGE)),
     };

@@ -24,28 +24,59 @@ pub fn repeated(
     Ok(text)
 }
 
-pub fn limit_text(heap: Global, limit: &Limit, times: usize) -> Result<Vec<u8>, AllocError> {
-    let mut text = repeated(heap, limit.front, limit.part, times, limit.middle)?;
-    add(&mut text, limit.shut, times)?;
-    text.extend_from_slice(limit.back)?;
-    Ok(text)
+// A kind of text that grows up to a limit.
+pub trait Growing {
+    fn name(&self) -> &str;
+
+    // How often its part may stand.
+    fn most(&self) -> usize;
+
+    // The text in which its part stands so many times.
+    fn text(&self, heap: Global, times: usize) -> Result<Vec<u8>, AllocError>;
 }
 
-pub fn numbered_text(heap: Global, parts: &Numbered, times: usize) -> Result<Vec<u8>, AllocError> {
-    let mut text = Vec::new(heap);
-    text.extend_from_slice(parts.front)?;
-    for n in 1..times {
-        text.extend_from_slice(parts.before)?;
-        let digits = format!(in heap; "{n}")?;
-        text.extend_from_slice(digits.as_bytes())?;
-        text.extend_from_slice(parts.behind)?;
+impl Growing for Limit {
+    fn name(&self) -> &str {
+        self.name
     }
-    text.extend_from_slice(parts.back)?;
-    Ok(text)
+
+    fn most(&self) -> usize {
+        self.most
+    }
+
+    fn text(&self, heap: Global, times: usize) -> Result<Vec<u8>, AllocError> {
+        let mut text = repeated(heap, self.front, self.part, times, self.middle)?;
+        add(&mut text, self.shut, times)?;
+        text.extend_from_slice(self.back)?;
+        Ok(text)
+    }
+}
+
+impl Growing for Numbered {
+    fn name(&self) -> &str {
+        self.name
+    }
+
+    fn most(&self) -> usize {
+        self.most
+    }
+
+    fn text(&self, heap: Global, times: usize) -> Result<Vec<u8>, AllocError> {
+        let mut text = Vec::new(heap);
+        text.extend_from_slice(self.front)?;
+        for n in 1..times {
+            text.extend_from_slice(self.before)?;
+            let digits = format!(in heap; "{n}")?;
+            text.extend_from_slice(digits.as_bytes())?;
+            text.extend_from_slice(self.behind)?;
+        }
+        text.extend_from_slice(self.back)?;
+        Ok(text)
+    }
 }
 
 pub fn used_text(heap: Global) -> Result<Vec<u8>, AllocError> {
-    let mut text = numbered_text(heap, &USED, USED.most)?;
+    let mut text = USED.text(heap, USED.most)?;
     add(&mut text, b"+x1399", 3300)?;
     text.extend_from_slice(b";}")?;
     Ok(text)
