@@ -1,7 +1,7 @@
 // Places in the text: where an item begins, and where a name or a word stands behind it.
 use pieces::piece::Piece;
 use pieces::refused::{Reason, refuse};
-use pieces::{next_piece, same_word};
+use pieces::next_piece;
 use rows::read::at;
 
 fn is_sign(piece: Piece, sign: u8) -> bool {
@@ -20,7 +20,7 @@ fn is_end(piece: Piece) -> bool {
 
 fn is_word(piece: Piece, word: &[u8]) -> bool {
     match piece {
-        Piece::Word(w) => same_word(w, word),
+        Piece::Word(w) => w == word,
         _ => false,
     }
 }

@@ -1,7 +1,8 @@
 -- How a statement begins, against the model's table.
-use Rattle.std.proofs.Common.{◌≡◌, ℕ, true, false, List, [], ◌∷◌, sym, refl, ap, ◌∙◌, subst, arith, Bor}
+use Rattle.std.proofs.Common.{◌≡◌, ℕ, true, false, List, [], ◌∷◌, sym, refl, ap, ◌∙◌, subst, nat_eq, Bor}
+use Rattle.std.specs.Cmp.Lexicographic.{pointwise, same_text}
 use Rattle.pieces.specs.declared.lead.Lead as code
-use Rattle.pieces.specs.declared.lead.Lead.TheVariants.{Out, If, While, Return, Break, Next, Named, Other}
+use Rattle.pieces.specs.declared.lead.Lead.TheVariants.{Named, Other}
 use Rattle.pieces.specs.declared.piece.Piece as cut
 use Rattle.pieces.specs.declared.piece.Piece.TheVariants as cuts
 use Rattle.pieces.specs.declared.piece.Piece.TheVariants.{Word, Text, Sign, Pair, Bad}
@@ -11,7 +12,7 @@ use Rattle.grammar.specs.Parse.{find}
 use Rattle.grammar.specs.ParseAll.{l_other, leads, lead}
 use Rattle.pieces.specs.Cutting.{Cut}
 use Rattle.pieces.specs.Seen.{class, keep}
-use Rattle.pieces.specs.Leads.{lead_of, head_lead, LeadFine, Leads, LeadFirst, Led}
+use Rattle.pieces.specs.Leads.{lead_of, head_lead, LeadFine, Leads, Led}
 use Rattle.pieces.proofs.Looking.{find-keep, name-no, ok-short}
 
 pub leads-name : (w : Bor (List ℕ)) → true ≡ is_name w.now → Leads (Named w) w.now
@@ -22,8 +23,11 @@ pub lead_is : (w : Name) → is_name w ≡ false → lead w ≡ find l_other lea
 unfolding lead
 lead_is w e = rw e
 
-pub leads-word : (w : Name) (k : code.Lead) → false ≡ is_name w → find l_other leads w ≡ lead_of k → LeadFine k w → Leads k w
-leads-word w k e f g = record { is = lead_is w (sym e) ∙ f; fine = g }
+pub leads_at : (w k : Name) (l : code.Lead) → true ≡ pointwise nat_eq w k → is_name k ≡ false → find l_other leads k ≡ lead_of l → LeadFine l w → Leads l w
+leads_at w k l e n f g = record { is = ap lead (same_text w k e) ∙ lead_is k n ∙ f; fine = g }
+
+pub leads-other : (w : Name) → false ≡ is_name w → find l_other leads w ≡ l_other → Leads Other w
+leads-other w e f = record { is = lead_is w (sym e) ∙ f; fine = tt }
 
 lead-class : (w : Name) (n : ℕ) → word_bytes w ≡ false → class w ≡ n → find l_other (keep n leads) w ≡ l_other → lead w ≡ l_other
 lead-class w n h e f = lead_is w (name-no w h) ∙ find-keep l_other n leads w e ∙ f
@@ -35,25 +39,6 @@ lead-none (Sign d) c n = ap head_lead c.said ∙ lead-class (d ∷ []) 1 (rw c.s
 lead-none (Pair d b) c n = ap head_lead c.said ∙ lead-class (d ∷ b ∷ []) 2 (rw c.sane) (rw c.sane) refl
 lead-none Bad c n = ap head_lead c.said ∙ lead_is (35 ∷ []) refl
 lead-none cuts.End c n = ap head_lead (c.said ∙ ap (pieces gap) c.placed)
-
-firsts : {t r : List ℕ} (k : code.Lead) (w : Bor (List ℕ)) → Leads k w.now → Cut t (Word w) r → LeadFirst k t r
-firsts k w a c = let l = c.less in record { word = w.now; said = c.said; is = a.is; fine = a.fine; less = omega arith; some = c.sane.1 }
-
-pub led_by : {t r : List ℕ} (k : code.Lead) (p : cut.Piece) (w : Bor (List ℕ)) → p ≡ Word w → Leads k w.now → Cut t p r → Led k t r
-led_by {t} {r} k p w e a c = go k a
-  where
-    d : Cut t (Word w) r
-    d = subst (λ (x : cut.Piece). Cut t x r) e c
-
-    go : (j : code.Lead) → Leads j w.now → Led j t r
-    go Out b = firsts Out w b d
-    go If b = firsts If w b d
-    go While b = firsts While w b d
-    go Return b = firsts Return w b d
-    go Break b = firsts Break w b d
-    go Next b = firsts Next w b d
-    go (Named x) b = firsts (Named x) w b d
-    go Other b = ap head_lead d.said ∙ b.is
 
 pub led_at : {k : code.Lead} (t r : List ℕ) (j : code.Lead) → k ≡ j → Led k t r → Led j t r
 led_at t r j e a = subst (λ (x : code.Lead). Led x t r) e a

@@ -1,8 +1,11 @@
 -- How `pieces` goes on over one byte more.
-use Rattle.std.proofs.Common.{◌≡◌, ℕ, ◌+◌, ◌-◌, ◌<◌, ◌≤◌, Bool, true, false, not, ◌&&◌, eqb, List, [], ◌∷◌, ◌++◌, length, get_or, take, drop, sym, refl, ap, ◌∙◌, subst, ap₂, append_assoc, one-add, arith, length-drop, length-take-le, drop-drop, Bor, ne_eqb}
-use Rattle.std.proofs.lemmas.List.{take_more, drop_more, drop_all, at_drop_more, at_drop_all, nil_from_length}
+use Rattle.std.proofs.Common.{◌≡◌, ℕ, ◌+◌, ◌-◌, ◌<◌, ◌≤◌, Bool, true, false, not, ◌&&◌, cond, eqb, ltb, ◌⊎◌, List, Option, Some, None, MatchOption, [], ◌∷◌, ◌++◌, length, get_or, take, drop, sym, refl, ap, ◌∙◌, subst, ap₂, append_assoc, one-add, arith, length-drop, length-take-le, drop-drop, Bor, ne_eqb, inl, inr, zero, suc, add-one}
+use Rattle.std.proofs.lemmas.List.{take_more, at_drop_more, at_drop_all}
+use Rattle.std.specs.List.{prefix_len, position_or_len}
+use Rattle.std.proofs.lemmas.List.Sums.{prefix_len-le-length, prefix_len_passes, prefix_len_stops, prefix_len-drop_yes, fails_before_first, passes_at_first}
+use Rattle.std.proofs.lemmas.Bool.{cases_lt, lt-ltb, le-ltb}
 use Rattle.pieces.specs.declared.piece.Piece.{Piece}
-use Rattle.pieces.specs.declared.piece.Piece.TheVariants.{Word, Text, Sign, Pair, Bad, End}
+use Rattle.pieces.specs.declared.piece.Piece.TheVariants.{Text, Sign, Pair}
 use borrow.Author.Tests.{both_ways}
 use Rattle.pieces.specs.Cutting.{Starts, before, some, Placed, Sane, Bare, Body, Cut}
 use Rattle.language.specs.Syntax.{pick, Name}
@@ -61,37 +64,51 @@ quoted-stop s n h e = at_drop_more (pieces (quoted (34 ∷ take n s))) s n 0 h �
 pub quoted-end : (s : List ℕ) (n : ℕ) → length s ≤ n → pieces (quoted (34 ∷ take n s)) (drop n s) ≡ (35 ∷ []) ∷ []
 quoted-end s n h = at_drop_all (pieces (quoted (34 ∷ take n s))) s n h
 
+-- the bytes of a word that stand at the front, and the bytes before the first quote
+pub word_run : (s : List ℕ) (k : ℕ) → k ≤ prefix_len word_byte s → (word_bytes (take k s) ≡ true) × (pieces (word []) s ≡ pieces (word (take k s)) (drop k s))
+word_run s zero h = (refl, refl)
+word_run s (suc k) h =
+    let r = word_run s k (omega arith) in
+    let l : k < length s = omega (arith, prefix_len-le-length word_byte s) in
+    let p = prefix_len_passes word_byte s k 0 (omega arith) in
+    rw (← add-one k) (word-bytes-on s k l r.0 p, r.1 ∙ word_more s k l p)
+
+pub word_whole : (s : List ℕ) → let n = prefix_len word_byte s in pieces (word []) s ≡ take n s ∷ pieces gap (drop n s)
+word_whole s = go (cases_lt (prefix_len word_byte s) (length s))
+  where
+    go : (prefix_len word_byte s < length s) ⊎ (length s ≤ prefix_len word_byte s) → pieces (word []) s ≡ take (prefix_len word_byte s) s ∷ pieces gap (drop (prefix_len word_byte s) s)
+    go (inl l) = (word_run s (prefix_len word_byte s) (omega arith)).1 ∙ word-stop s _ l (prefix_len_stops word_byte s 0 l)
+    go (inr h) = (word_run s (prefix_len word_byte s) (omega arith)).1 ∙ word_end s _ h
+
+pub word-some : (s : List ℕ) → 0 < length s → word_byte (get_or s 0 0) ≡ true → 0 < prefix_len word_byte s
+word-some s h e = omega (arith, prefix_len-drop_yes word_byte s 0 0 h e)
+
+abbrev pub quote : ℕ → Bool
+quote c = eqb c 34
+
+quoted_run : (s : List ℕ) (k : ℕ) → k ≤ position_or_len quote s → pieces (quoted (34 ∷ [])) s ≡ pieces (quoted (34 ∷ take k s)) (drop k s)
+quoted_run s zero h = refl
+quoted_run s (suc k) h =
+    let l : k < length s = omega (arith, prefix_len-le-length (λ c. not (quote c)) s) in
+    rw (← add-one k) (quoted_run s k (omega arith) ∙ quoted-more s k l (fails_before_first quote s k 0 (omega arith)))
+
+pub quoted-is : (s : List ℕ) (r : Option ℕ) → r ≡ cond (ltb (position_or_len quote s) (length s)) (Some (position_or_len quote s)) None → MatchOption r (pieces (quoted (34 ∷ [])) s ≡ (35 ∷ []) ∷ []) (λ n. (n < length s) × (pieces (quoted (34 ∷ [])) s ≡ (34 ∷ take n s) ∷ pieces gap (drop (n + 1) s)))
+quoted-is s r e = go (cases_lt (position_or_len quote s) (length s))
+  where
+    n : ℕ
+    n = position_or_len quote s
+
+    run : pieces (quoted (34 ∷ [])) s ≡ pieces (quoted (34 ∷ take n s)) (drop n s)
+    run = quoted_run s n (omega arith)
+
+    go : (n < length s) ⊎ (length s ≤ n) → MatchOption r (pieces (quoted (34 ∷ [])) s ≡ (35 ∷ []) ∷ []) (λ n. (n < length s) × (pieces (quoted (34 ∷ [])) s ≡ (34 ∷ take n s) ∷ pieces gap (drop (n + 1) s)))
+    go (inl l) = rw (e, lt-ltb n (length s) l) (l, run ∙ quoted-stop s n l (passes_at_first quote s 0 l))
+    go (inr h) = rw (e, le-ltb n (length s) h) (run ∙ quoted-end s n h)
+
 -- the gap: `noted` within a note
 abbrev pub lull : Bool → Mode
 lull true = note
 lull false = gap
-
-pub note-more : (s : List ℕ) (n : ℕ) → n < length s → pieces note (drop n s) ≡ pieces (lull (not (eqb (get_or s n 0) 10))) (drop (n + 1) s)
-note-more s n h = at_drop_more (pieces note) s n 0 h ∙ go (eqb (get_or s n 0) 10)
-  where
-    go : (b : Bool) → after (pick b (turn [] gap) (turn [] note)) (drop (n + 1) s) ≡ pieces (lull (not b)) (drop (n + 1) s)
-    go true = refl
-    go false = refl
-
--- `from_gap` behind its first test
-abbrev later : ℕ → Turn
-later c = pick (eqb c 35) (turn [] note) (pick (eqb c 34) (turn [] (quoted (34 ∷ []))) (pick (word_byte c) (turn [] (word (c ∷ []))) (pick (may_join c) (turn [] (sign c)) (turn ((c ∷ []) ∷ []) gap))))
-
-pub blank-more : (s : List ℕ) (n : ℕ) → n < length s → blank (get_or s n 0) ≡ true → pieces gap (drop n s) ≡ pieces gap (drop (n + 1) s)
-blank-more s n h e = at_drop_more (pieces gap) s n 0 h ∙ ap (λ (b : Bool). after (pick b (turn [] gap) (later (get_or s n 0))) (drop (n + 1) s)) e
-
-pub hash_more : (s : List ℕ) (n : ℕ) → n < length s → get_or s n 0 ≡ 35 → pieces gap (drop n s) ≡ pieces note (drop (n + 1) s)
-hash_more s n h e = at_drop_more (pieces gap) s n 0 h ∙ ap (λ (k : ℕ). pieces gap (k ∷ drop (n + 1) s)) e
-
-pub lull-end : (b : Bool) (s : List ℕ) (n : ℕ) → length s ≤ n → pieces (lull b) (drop n s) ≡ pieces gap (drop n s)
-lull-end true s n h = at_drop_all (pieces note) s n h ∙ sym (at_drop_all (pieces gap) s n h)
-lull-end false s n h = refl
-
-pub starts-end : (s : List ℕ) (n : ℕ) → length s ≤ n → Starts (drop n s)
-starts-end s n h = subst Starts (sym (drop_all n s h)) tt
-
-pub starts-here : (s : List ℕ) (n : ℕ) → n < length s → blank (get_or s n 0) ≡ false → (get_or s n 0 ≡ 35 → ⊥) → Starts (drop n s)
-starts-here s n h e f = subst Starts (sym (drop_more s n 0 h)) (e, ne_eqb _ 35 f)
 
 -- past the first three tests of `from_gap`
 gap3 : (b1 b2 b3 : Bool) (t : Turn) (s : List ℕ) → b1 ≡ false → b2 ≡ false → b3 ≡ false → after (pick b1 (turn [] gap) (pick b2 (turn [] note) (pick b3 (turn [] (quoted (34 ∷ []))) t))) s ≡ after t s
@@ -105,9 +122,6 @@ last2 b c = pick b (turn [] (sign c)) (turn ((c ∷ []) ∷ []) gap)
 
 gap-past : (c : ℕ) (s : List ℕ) → Starts (c ∷ s) → (c ≡ 34 → ⊥) → pieces gap (c ∷ s) ≡ after (pick (word_byte c) (turn [] (word (c ∷ []))) (last2 (may_join c) c)) s
 gap-past c s h q = gap3 (blank c) (eqb c 35) (eqb c 34) (pick (word_byte c) (turn [] (word (c ∷ []))) (last2 (may_join c) c)) s h.0 h.1 (ne_eqb c 34 q)
-
-gap_word : (c : ℕ) (s : List ℕ) → Starts (c ∷ s) → (c ≡ 34 → ⊥) → word_byte c ≡ true → pieces gap (c ∷ s) ≡ pieces (word []) (c ∷ s)
-gap_word c s h q e = gap-past c s h q ∙ ap (λ (b : Bool). after (pick b (turn [] (word (c ∷ []))) (last2 (may_join c) c)) s) e ∙ sym (word_on [] c s e)
 
 gap-sign : (c : ℕ) (s : List ℕ) → Starts (c ∷ s) → (c ≡ 34 → ⊥) → word_byte c ≡ false → pieces gap (c ∷ s) ≡ after (last2 (may_join c) c) s
 gap-sign c s h q e = gap-past c s h q ∙ ap (λ (b : Bool). after (pick b (turn [] (word (c ∷ []))) (last2 (may_join c) c)) s) e
@@ -139,9 +153,6 @@ cut_by {t} {b} h p m r e l n q w v x =
       bare = x;
     }
 
-pub cut-end : {t b : List ℕ} → Body t b → length b ≡ 0 → Cut t End b
-cut-end {t} {b} h z = cut_by h End 0 b refl (omega arith) (omega arith) refl (nil_from_length b z) tt tt
-
 module _ {t b : List ℕ} (h : Body t b) (c : ℕ) (r : List ℕ) (e : b ≡ c ∷ r) where
   begun1 : Starts (c ∷ r)
   begun1 = subst Starts e h.starts
@@ -158,9 +169,6 @@ module _ {t b : List ℕ} (h : Body t b) (c : ℕ) (r : List ℕ) (e : b ≡ c �
   pub cut_single : (c ≡ 34 → ⊥) → word_byte c ≡ false → may_join c ≡ false → Cut t (Sign c) r
   cut_single q l n = sign1 q l (gap-single c r begun1 q l n)
 
-  pub cut_last : (c ≡ 34 → ⊥) → word_byte c ≡ false → may_join c ≡ true → length r ≡ 0 → Cut t (Sign c) r
-  cut_last q l y n = sign1 q l (gap-begun c r begun1 q l y ∙ subst (λ (s : List ℕ). pieces (sign c) s ≡ (c ∷ []) ∷ pieces gap s) (sym (nil_from_length r n)) refl)
-
   pub cut_alone : (d : ℕ) (s : List ℕ) → (c ≡ 34 → ⊥) → word_byte c ≡ false → may_join c ≡ true → r ≡ d ∷ s → joins c d ≡ false → Cut t (Sign c) r
   cut_alone d s q l y f j = sign1 q l (gap-begun c r begun1 q l y ∙ subst (λ (u : List ℕ). pieces (sign c) u ≡ (c ∷ []) ∷ pieces gap u) (sym f) (sign_alone c d s j))
 
@@ -170,25 +178,6 @@ module _ {t b : List ℕ} (h : Body t b) (c : ℕ) (r : List ℕ) (e : b ≡ c �
       let y2 = ap length f ∙ sym (one-add (length s)) in
       cut_by h (Pair c d) 2 s (ap (drop 1) (sym f) ∙ ap (drop 1) rest1 ∙ drop-drop 1 1 b) (omega arith) (omega arith)
       (ap (pieces gap) e ∙ gap-begun c r begun1 q l y ∙ ap (pieces (sign c)) f ∙ sign-joined c d s j) tt l (ne_eqb c 34 q)
-
-  pub cut_word : (w : Bor (List ℕ)) (n : ℕ) (u : List ℕ) → (c ≡ 34 → ⊥) → word_byte c ≡ true → 0 < n → n ≤ length b → w.now ≡ take n b → u ≡ drop n b → pieces (word []) b ≡ take n b ∷ pieces gap (drop n b) → word_bytes (take n b) ≡ true → Cut t (Word w) u
-  cut_word w n u q l p m ew er s y =
-      let lw = ap length ew ∙ length-take-le n b m in
-      let lb = ap length h.is ∙ length-drop h.at t in
-      let lr = ap length er ∙ length-drop n b in
-      let f = h.fits in
-      let k : length t - length u - length w.now ≡ h.at = omega arith in
-      cut_by h (Word w) n u er m (omega arith)
-      (ap (pieces gap) e ∙ gap_word c r begun1 q l ∙ ap (pieces (word [])) (sym e) ∙ s ∙ ap₂ (λ x v. x ∷ pieces gap v) (sym ew) (sym er))
-      (omega arith, ew ∙ ap (take n) (h.is ∙ ap (λ i. drop i t) (sym k)) ∙ ap (λ i. take i (drop (length t - length u - length w.now) t)) (sym lw))
-      (ap word_bytes ew ∙ y, omega arith) tt
-
-  pub cut_bad : (u : List ℕ) → c ≡ 34 → length u ≡ 0 → pieces (quoted (34 ∷ [])) r ≡ (35 ∷ []) ∷ [] → Cut t Bad u
-  cut_bad u q n s =
-      let z = size1 in
-      let nil = nil_from_length u n in
-      cut_by h Bad (length b) u (nil ∙ sym (drop_all (length b) b (omega arith))) (omega arith) (omega arith)
-      (ap (pieces gap) (e ∙ ap (λ k. k ∷ r) q) ∙ s ∙ ap (λ k. (35 ∷ []) ∷ pieces gap k) (sym nil)) tt tt tt
 
   pub cut_text : (w : Bor (List ℕ)) (n : ℕ) (u : List ℕ) → c ≡ 34 → n < length r → w.now ≡ take n r → u ≡ drop (n + 1) r → pieces (quoted (34 ∷ [])) r ≡ (34 ∷ take n r) ∷ pieces gap (drop (n + 1) r) → Cut t (Text w) u
   cut_text w n u q l ew er s =

@@ -4,6 +4,5 @@ pub mod Naming
 pub mod Looking
 pub mod Leading
 pub mod Tying
-pub mod Numbers
 pub mod Flatness
 pub mod Refusing

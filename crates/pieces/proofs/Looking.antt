@@ -1,5 +1,6 @@
 -- What the code sees a piece as, against the model's table.
-use Rattle.std.proofs.Common.{◌≡◌, ℕ, ◌+◌, ◌<◌, ◌≤◌, Bool, true, false, not, ◌&&◌, ◌||◌, T, eqb, leb, ◌⊎◌, List, [], ◌∷◌, length, sym, refl, ap, ◌∙◌, subst, inl, inr, arith, leb→le, Bor, eq-eqb}
+use Rattle.std.proofs.Common.{◌≡◌, ℕ, ◌+◌, ◌<◌, ◌≤◌, Bool, true, false, nat_eq, not, ◌&&◌, ◌||◌, T, eqb, leb, ◌⊎◌, List, [], ◌∷◌, length, sym, refl, ap, ◌∙◌, subst, inl, inr, arith, leb→le, Bor, eq-eqb}
+use Rattle.std.specs.Cmp.Lexicographic.{pointwise, same_text}
 use mathlib.Core.Option.{Option, some, none}
 use Rattle.pieces.specs.declared.seen.Look.{Look}
 use Rattle.pieces.specs.declared.seen.Look.TheVariants.{Num, Named, Tie, Minus, Before, OpenRound, ShutRound, OpenSquare, Comma, Len, Call, In, Other, End}
@@ -10,7 +11,7 @@ use Rattle.language.specs.Syntax.{pick, Name, same}
 use Rattle.grammar.specs.Text.{pieces, gap, word_byte, word_bytes, is_name, decimal}
 use Rattle.grammar.specs.Parse.{p_name, p_other, look, Entry, find, fixed, num_of}
 use Rattle.pieces.specs.Cutting.{Cut, Sane}
-use Rattle.pieces.specs.Seen.{piece_of, class, keep, Fine, Looks, LooksAs, First, Nothing, Seen, ate, is_no_name, Signy, Ate}
+use Rattle.pieces.specs.Seen.{piece_of, class, keep, Fine, Looks, LooksAs, First, Nothing, Seen, ate, is_no_name, Signy}
 use Rattle.grammar.proofs.PieceKinds.{false_of, same-eq, look-name}
 
 pub of_true : (b : Bool) → b ≡ true → T b
@@ -100,7 +101,7 @@ ends {t} {r} cuts.End a c = let l = c.less in record { said = c.said ∙ ap (pie
 pub seen_by : {t r : List ℕ} (k : Look) (p : cut.Piece) → LooksAs k p → Cut t p r → Seen k t r
 seen_by (Num n) p a c = firsts (Num n) p a c (λ e. let y : ◌≡◌ {A = ℕ} 0 1 = cc in omega arith)
 seen_by (Named w) p a c = firsts (Named w) p a c (λ e. let y : ◌≡◌ {A = ℕ} 0 1 = cc in omega arith)
-seen_by (Tie l o) p a c = firsts (Tie l o) p a c (λ e. let y : ◌≡◌ {A = ℕ} 0 1 = cc in omega arith)
+seen_by (Tie o) p a c = firsts (Tie o) p a c (λ e. let y : ◌≡◌ {A = ℕ} 0 1 = cc in omega arith)
 seen_by Minus p a c = firsts Minus p a c (λ e. let y : ◌≡◌ {A = ℕ} 0 1 = cc in omega arith)
 seen_by (Before o) p a c = firsts (Before o) p a c (λ e. let y : ◌≡◌ {A = ℕ} 0 1 = cc in omega arith)
 seen_by OpenRound p a c = firsts OpenRound p a c (λ e. let y : ◌≡◌ {A = ℕ} 0 1 = cc in omega arith)
@@ -128,8 +129,11 @@ other_looks Bad n m o q = look_bad
 other_looks cuts.End n m o q = absurd (q refl)
 
 -- a word that is no number and no name
-pub word_is : (w : Name) (k : Look) → word_bytes w ≡ true → num_of w ≡ none → false ≡ is_name w → find p_other (keep 0 fixed) w ≡ piece_of k → Fine k w → Looks k w
-word_is w k h e f g i = record { is = look-word w h e (sym f) ∙ g; fine = i }
+pub word_at : (w v : Name) (k : Look) → true ≡ pointwise nat_eq w v → num_of v ≡ none → is_name v ≡ false → find p_other fixed v ≡ piece_of k → Fine k w → Looks k w
+word_at w v k e f g h i = record { is = ap look (same_text w v e) ∙ look_else v f g ∙ h; fine = i }
+
+pub word-other : (w : Name) → word_bytes w ≡ true → num_of w ≡ none → false ≡ is_name w → find p_other (keep 0 fixed) w ≡ p_other → Looks Other w
+word-other w h e f g = record { is = look-word w h e (sym f) ∙ g; fine = tt }
 
 and_l : (a b : Bool) → (a && b) ≡ true → a ≡ true
 and_l true b e = refl
@@ -171,7 +175,7 @@ other_sign p a c e n f = let g : a ≡ c = cc in n g
 pub seen-any : {t r : List ℕ} (k : Look) → Seen k t r → First k t r ⊎ Nothing t r
 seen-any (Num n) a = inl a
 seen-any (Named w) a = inl a
-seen-any (Tie l o) a = inl a
+seen-any (Tie o) a = inl a
 seen-any Minus a = inl a
 seen-any (Before o) a = inl a
 seen-any OpenRound a = inl a
@@ -187,7 +191,7 @@ seen-any End a = inr a
 not_name : (k : Look) → ((w : Bor (List ℕ)) → k ≡ Named w → ⊥) → piece_of k ≡ p_name → ⊥
 not_name (Num n) f e = let y : ◌≡◌ {A = ℕ} 0 1 = cc in omega arith
 not_name (Named w) f e = f w refl
-not_name (Tie l o) f e = let y : ◌≡◌ {A = ℕ} 0 1 = cc in omega arith
+not_name (Tie o) f e = let y : ◌≡◌ {A = ℕ} 0 1 = cc in omega arith
 not_name Minus f e = let y : ◌≡◌ {A = ℕ} 0 1 = cc in omega arith
 not_name (Before o) f e = let y : ◌≡◌ {A = ℕ} 0 1 = cc in omega arith
 not_name OpenRound f e = let y : ◌≡◌ {A = ℕ} 0 1 = cc in omega arith
@@ -211,9 +215,10 @@ no_name k (inr a) n = rw a.said
 pub seen_at : {k : Look} (t r : List ℕ) (j : Look) → k ≡ j → Seen k t r → Seen j t r
 seen_at t r j e a = subst (λ (x : Look). Seen x t r) e a
 
-pub ate-word : {t r : List ℕ} (w : Name) (p : cut.Piece) (v : Bor (List ℕ)) → p ≡ Word v → Cut t p r → same v.now w ≡ true → Ate w t r
-ate-word {t} {r} w p v e c s =
-    let d = subst (λ (x : cut.Piece). Cut t x r) e c in
-    let f : v.now ≡ w = same-eq v.now w (of_true _ s) in
-    let l = d.less in
-    record { said = d.said ∙ ap (λ x. x ∷ pieces gap r) f; less = omega (arith, ap length f) }
+pub ate-no-other : {t r : List ℕ} (w : Name) (p : cut.Piece) → word_bytes w ≡ true → Cut t p r → ((v : Bor (List ℕ)) → p ≡ Word v → ⊥) → ate w (pieces gap t) ≡ none
+ate-no-other w (Word x) h c n = absurd (n x refl)
+ate-no-other {t} {r} w (Text x) h c n = rw c.said (ate-no (34 ∷ x.now) w (pieces gap r) (λ e. let f = ap word_bytes e in let y : ◌≡◌ {A = ℕ} 0 1 = cc in omega arith))
+ate-no-other {t} {r} w (Sign d) h c n = rw c.said (ate-no (d ∷ []) w (pieces gap r) (λ e. let f = ap word_bytes e in let g = ap (λ x. x && true) c.sane in let y : ◌≡◌ {A = ℕ} 0 1 = cc in omega arith))
+ate-no-other {t} {r} w (Pair d b) h c n = rw c.said (ate-no (d ∷ b ∷ []) w (pieces gap r) (λ e. let f = ap word_bytes e in let g = ap (λ x. x && (word_byte b && true)) c.sane in let y : ◌≡◌ {A = ℕ} 0 1 = cc in omega arith))
+ate-no-other {t} {r} w Bad h c n = rw c.said (ate-no (35 ∷ []) w (pieces gap r) (λ e. let f = ap word_bytes e in let y : ◌≡◌ {A = ℕ} 0 1 = cc in omega arith))
+ate-no-other w cuts.End h c n = rw (c.said, c.placed)

@@ -6,6 +6,10 @@ use Rattle.pieces.specs.declared.seen.Look.{Look}
 use Rattle.pieces.specs.declared.seen.Look.TheVariants.{Num, Named, Tie, Minus, Before, OpenRound, ShutRound, OpenSquare, Comma, Len, Call, In, Other, End}
 use Rattle.pieces.specs.declared.seen.Op.{Op}
 use Rattle.pieces.specs.declared.seen.Op.TheVariants.{Or, And, Two}
+use Rattle.pieces.specs.declared.seen.Binary.{Binary}
+use Rattle.pieces.specs.declared.seen.Binary.TheVariants.{Add, Subtract, Multiply, Divide, Remainder, Equal, Unequal, Less, LessOrEqual, Greater, GreaterOrEqual, BitAnd, BitOr, BitXor, ShiftLeft, ShiftRight}
+use Rattle.pieces.specs.declared.seen.Unary.{Unary}
+use Rattle.pieces.specs.declared.seen.Unary.TheVariants.{Negate, Not, Invert}
 use Rattle.pieces.specs.declared.piece.Piece as cut
 use Rattle.pieces.specs.declared.piece.Piece.TheVariants as cuts
 use Rattle.pieces.specs.declared.piece.Piece.TheVariants.{Word, Text, Sign, Pair, Bad}
@@ -15,19 +19,67 @@ use Rattle.grammar.specs.Parse as parse
 use Rattle.grammar.specs.ParseAll.{in_quotes}
 use Rattle.grammar.specs.Parse.{Piece, p_num, p_name, p_op, p_minus, p_before, p_lp, p_rp, p_lb, p_comma, p_len, p_call, p_in, p_other, look, Entry, tie, o_or, o_and, o_bin, join, got, bind, climb, reader, num_of}
 
+-- the numbers of operators in trees
+abbrev pub binary_number : Binary → ℕ
+binary_number Add = 0
+binary_number Subtract = 1
+binary_number Multiply = 2
+binary_number Divide = 3
+binary_number Remainder = 4
+binary_number Equal = 5
+binary_number Unequal = 6
+binary_number Less = 7
+binary_number LessOrEqual = 8
+binary_number Greater = 9
+binary_number GreaterOrEqual = 10
+binary_number BitAnd = 11
+binary_number BitOr = 12
+binary_number BitXor = 13
+binary_number ShiftLeft = 14
+binary_number ShiftRight = 15
+
+abbrev pub unary_number : Unary → ℕ
+unary_number Negate = 0
+unary_number Not = 1
+unary_number Invert = 2
+
+-- how tightly an operator between two holds
+abbrev pub binary_level : Binary → ℕ
+binary_level Add = 6
+binary_level Subtract = 6
+binary_level Multiply = 7
+binary_level Divide = 7
+binary_level Remainder = 7
+binary_level Equal = 2
+binary_level Unequal = 2
+binary_level Less = 2
+binary_level LessOrEqual = 2
+binary_level Greater = 2
+binary_level GreaterOrEqual = 2
+binary_level BitAnd = 4
+binary_level BitOr = 3
+binary_level BitXor = 3
+binary_level ShiftLeft = 5
+binary_level ShiftRight = 5
+
+abbrev pub level_of : Op → ℕ
+level_of Or = 0
+level_of And = 1
+level_of (Two o) = binary_level o
+
 -- an operator, as the model says it
 abbrev pub op_of : Op → parse.Op
 op_of Or = o_or
 op_of And = o_and
-op_of (Two o) = o_bin o
+op_of (Two o) = o_bin (binary_number o)
 
 -- as the model says it
 abbrev pub piece_of : Look → Piece
 piece_of (Num n) = p_num n
 piece_of (Named w) = p_name
-piece_of (Tie l o) = p_op (tie l (op_of o))
+piece_of (Tie o) = p_op (tie (level_of o) (op_of o))
 piece_of Minus = p_minus
-piece_of (Before o) = p_before o
+piece_of (Before o) = p_before (unary_number o)
 piece_of OpenRound = p_lp
 piece_of ShutRound = p_rp
 piece_of OpenSquare = p_lb
@@ -46,11 +98,11 @@ abbrev pub keep : {A : Type 0} → ℕ → List (Entry A) → List (Entry A)
 keep n [] = []
 keep n (e ∷ es) = pick (n == class e.key) (e ∷ keep n es) (keep n es)
 
--- what holds of a piece besides: a number is small, a name is one, a level is in range
+-- what holds of a piece besides: a number is small, a name is one
 abbrev pub Fine : Look → Name → Type 0
 Fine (Num n) x = n < 10000000000
 Fine (Named w) x = (x ≡ w.now) × (is_name x ≡ true) × (length x ≤ 32)
-Fine (Tie l o) x = l ≤ 7
+Fine (Tie o) x = Unit {0}
 Fine Minus x = Unit {0}
 Fine (Before o) x = Unit {0}
 Fine OpenRound x = Unit {0}
@@ -95,7 +147,7 @@ pub record Nothing (t r : List ℕ) : Type 0 where
 abbrev pub Seen : Look → List ℕ → List ℕ → Type 0
 Seen (Num n) t r = First (Num n) t r
 Seen (Named w) t r = First (Named w) t r
-Seen (Tie l o) t r = First (Tie l o) t r
+Seen (Tie o) t r = First (Tie o) t r
 Seen Minus t r = First Minus t r
 Seen (Before o) t r = First (Before o) t r
 Seen OpenRound t r = First OpenRound t r
@@ -132,12 +184,12 @@ pub record AteName (w : Name) (t r : List ℕ) : Type 0 where
   pub some : 1 ≤ length w
   pub short : length w ≤ 32
 
--- an operator between two stands first, and holds as tightly as l; or none does
-pub record Tied (l : ℕ) (o : Op) (t r : List ℕ) : Type 0 where
-  pub taken : (n : ℕ) (a : Expr) → n ≤ l → reader.chain n a (pieces gap t) ≡ bind (climb reader (l + 1) (pieces gap r)) (λ b q. reader.chain n (join (op_of o) a b) q)
-  pub left : (n : ℕ) (a : Expr) → l < n → reader.chain n a (pieces gap t) ≡ got a (pieces gap t)
+-- an operator between two stands first; or none does
+pub record Tied (o : Op) (t r : List ℕ) : Type 0 where
+  pub taken : (n : ℕ) (a : Expr) → n ≤ level_of o → reader.chain n a (pieces gap t) ≡ bind (climb reader (level_of o + 1) (pieces gap r)) (λ b q. reader.chain n (join (op_of o) a b) q)
+  pub left : (n : ℕ) (a : Expr) → level_of o < n → reader.chain n a (pieces gap t) ≡ got a (pieces gap t)
   pub less : length r + 1 ≤ length t
-  pub low : l ≤ 7
+  pub low : level_of o ≤ 7
 
 abbrev pub Untied : List ℕ → Type 0
 Untied t = (n : ℕ) (a : Expr) → reader.chain n a (pieces gap t) ≡ got a (pieces gap t)

@@ -8,35 +8,38 @@ use super::lex::next_piece;
 use super::piece::Piece;
 use super::refused::{Reason, Refused, refuse};
 
-pub fn open_after(piece: Piece, n: u32) -> u32
-    requires sane { Sane piece }
-    requires few { n ≤ 40 }
-    ensures { result ≡ opened_after piece.entry n }
-{
-    let Piece::Sign(a) = piece else {
-        return n;
-    };
-    if a == b'(' || a == b'[' || a == b'{' {
-        return n + 1;
-    }
-    if (a == b')' || a == b']' || a == b'}') && n > 0 {
-        return n - 1;
-    }
-    n
+// How many brackets are open, and how many signs before one stand in a row.
+#[derive(Clone, Copy, Debug, Default, PartialEq, Eq)]
+pub struct Nesting {
+    pub brackets: u32,
+    pub signs: u32,
 }
 
-pub fn signs_after(piece: Piece, n: u32) -> u32
-    requires sane { Sane piece }
-    requires few { n ≤ 40 }
-    ensures { result ≡ signed_after piece.entry n }
-{
-    let Piece::Sign(a) = piece else {
-        return 0;
-    };
-    if a == b'-' || a == b'!' || a == b'~' {
-        n + 1
-    } else {
-        0
+impl Nesting {
+    // What they are behind one piece more.
+    pub fn after(self, piece: Piece) -> Nesting
+        requires sane { Sane piece }
+        requires brackets { self.brackets ≤ 40 }
+        requires signs { self.signs ≤ 40 }
+        ensures brackets { result.brackets ≡ opened_after piece.entry self.brackets }
+        ensures signs { result.signs ≡ signed_after piece.entry self.signs }
+    {
+        let Piece::Sign(a) = piece else {
+            return Nesting {
+                brackets: self.brackets,
+                signs: 0,
+            };
+        };
+        let brackets = match a {
+            b'(' | b'[' | b'{' => self.brackets + 1,
+            b')' | b']' | b'}' => self.brackets.saturating_sub(1),
+            _ => self.brackets,
+        };
+        let signs = match a {
+            b'-' | b'!' | b'~' => self.signs + 1,
+            _ => 0,
+        };
+        Nesting { brackets, signs }
     }
 }
 
@@ -45,21 +48,19 @@ pub fn check_flat(text: &[u8]) -> Result<(), Refused>
     ensures { MatchResult result (λ _. (flats 0 (pieces gap text.now) && calm 0 (pieces gap text.now)) ≡ true) (λ _. (flats 0 (pieces gap text.now) && calm 0 (pieces gap text.now)) ≡ false) }
 {
     let mut rest = text;
-    let mut open = 0;
-    let mut signs = 0;
+    let mut nesting = Nesting::default();
     loop {
         let (piece, behind) = next_piece(rest);
         if let Piece::End = piece {
             return Ok(());
         }
-        if open > 40 {
+        if nesting.brackets > 40 {
             return Err(refuse(rest, Reason::BracketsTooDeep));
         }
-        if signs > 40 {
+        if nesting.signs > 40 {
             return Err(refuse(rest, Reason::SignsTooMany));
         }
-        open = open_after(piece, open);
-        signs = signs_after(piece, signs);
+        nesting = nesting.after(piece);
         rest = behind;
     }
 }

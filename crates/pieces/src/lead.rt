@@ -2,10 +2,11 @@
 ghost use Rattle.pieces.specs.Leads.{Leads, Led};
 
 use super::lex::next_piece;
-use super::names::{is_name, same_word};
+use super::names::is_name;
 use super::piece::Piece;
+use super::words;
 
-#[derive(Clone, Copy)]
+#[derive(Clone, Copy, Debug, PartialEq, Eq)]
 pub enum Lead<'a> {
     Out,
     If,
@@ -18,28 +19,29 @@ pub enum Lead<'a> {
     Other,
 }
 
+// No `match` on the word: of a byte string's arm a proof learns the length alone.
 fn lead_word<'a>(w: &'a [u8]) -> Lead<'a>
     ensures { Leads result w.now }
 {
     if is_name(w) {
         return Lead::Named(w);
     }
-    if same_word(w, b"out") {
+    if w == words::OUT {
         return Lead::Out;
     }
-    if same_word(w, b"if") {
+    if w == words::IF {
         return Lead::If;
     }
-    if same_word(w, b"while") {
+    if w == words::WHILE {
         return Lead::While;
     }
-    if same_word(w, b"return") {
+    if w == words::RETURN {
         return Lead::Return;
     }
-    if same_word(w, b"break") {
+    if w == words::BREAK {
         return Lead::Break;
     }
-    if same_word(w, b"continue") {
+    if w == words::CONTINUE {
         return Lead::Next;
     }
     Lead::Other

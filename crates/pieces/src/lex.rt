@@ -1,5 +1,5 @@
 // From bytes to pieces: the first piece of a text, and what is left behind it.
-ghost use Rattle.std.specs.Prelude.{◌≡◌, ◌+◌, ◌-◌, ◌<◌, ◌≤◌, true, false, [], ◌∷◌, length, take, drop, slice_index};
+ghost use Rattle.std.specs.Prelude.{◌≡◌, ◌+◌, ◌-◌, ◌<◌, ◌≤◌, true, false, [], ◌∷◌, length, take, drop, slice_index, MatchOption};
 ghost use Rattle.grammar.specs.Text.{pieces, gap, word, quoted, word_byte, word_bytes, blank, may_join, joins};
 ghost use Rattle.pieces.specs.Cutting.{Starts, Body, Cut};
 
@@ -14,7 +14,7 @@ pub fn is_word_byte(c: u8) -> bool
 fn is_blank(c: u8) -> bool
     ensures { result ≡ blank c }
 {
-    c == b' ' || c == b'\n' || c == b'\r' || c == b'\t'
+    matches!(c, b' ' | b'\n' | b'\r' | b'\t')
 }
 
 // Whether a second byte may follow as part of the sign.
@@ -40,20 +40,17 @@ fn gap_len(text: &[u8]) -> usize
     ensures same { pieces gap text.now ≡ pieces gap (drop result text.now) }
     ensures stops { Starts (drop result text.now) }
 {
-    let mut n = 0;
     let mut noted = false;
-    while n < text.len() {
-        let c = text[n];
+    for (n, c) in text.iter().enumerate() {
         if noted {
-            noted = c != b'\n';
-        } else if c == b'#' {
+            noted = *c != b'\n';
+        } else if *c == b'#' {
             noted = true;
-        } else if !is_blank(c) {
-            break;
+        } else if !is_blank(*c) {
+            return n;
         }
-        n += 1;
     }
-    n
+    text.len()
 }
 
 // How many bytes of a word stand at the front.
@@ -65,24 +62,14 @@ fn word_len(text: &[u8]) -> usize
     ensures within { result ≤ length text.now }
     ensures is { pieces (word []) text.now ≡ take result text.now ∷ pieces gap (drop result text.now) }
 {
-    let mut n = 1;
-    while n < text.len() && is_word_byte(text[n]) {
-        n += 1;
-    }
-    n
+    text.iter().take_while(|c| is_word_byte(**c)).count()
 }
 
-// How many bytes stand before the first quote: all of them if there is none.
-fn text_len(text: &[u8]) -> usize
-    ensures within { result ≤ length text.now }
-    ensures closed { result < length text.now → pieces (quoted (34 ∷ [])) text.now ≡ (34 ∷ take result text.now) ∷ pieces gap (drop (result + 1) text.now) }
-    ensures open1 { result ≡ length text.now → pieces (quoted (34 ∷ [])) text.now ≡ (35 ∷ []) ∷ [] }
+// How many bytes stand before the first quote, if there is one.
+fn text_len(text: &[u8]) -> Option<usize>
+    ensures { MatchOption result (pieces (quoted (34 ∷ [])) text.now ≡ (35 ∷ []) ∷ []) (λ n. (n < length text.now) × (pieces (quoted (34 ∷ [])) text.now ≡ (34 ∷ take n text.now) ∷ pieces gap (drop (n + 1) text.now))) }
 {
-    let mut n = 0;
-    while n < text.len() && text[n] != b'"' {
-        n += 1;
-    }
-    n
+    text.iter().position(|c| *c == b'"')
 }
 
 // The text from its first piece on.
@@ -103,10 +90,9 @@ pub fn next_piece<'a>(text: &'a [u8]) -> (Piece<'a>, &'a [u8])
     };
     let c = *first;
     if c == b'"' {
-        let n = text_len(rest);
-        if n == rest.len() {
-            return (Piece::Bad, &rest[n..]);
-        }
+        let Some(n) = text_len(rest) else {
+            return (Piece::Bad, &rest[rest.len()..]);
+        };
         let (inner, closed) = rest.split_at(n);
         return (Piece::Text(inner), &closed[1..]);
     }

@@ -9,6 +9,7 @@ mod names;
 pub mod piece;
 pub mod refused;
 pub mod seen;
+pub mod words;
 
 pub use lex::next_piece;
-pub use names::{is_name, number, same_word};
+pub use names::{is_name, number};

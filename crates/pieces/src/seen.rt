@@ -3,31 +3,120 @@ ghost use Rattle.std.specs.Prelude.{◌≡◌, ◌+◌, ◌<◌, true, [], ◌�
 ghost use Rattle.grammar.specs.Text.{word_bytes};
 ghost use Rattle.grammar.specs.Parse.{find, fixed, p_other};
 ghost use Rattle.pieces.specs.Cutting.{Sane};
-ghost use Rattle.pieces.specs.Seen.{piece_of, keep, Fine, Looks, LooksAs, Seen, Tied, Untied};
+ghost use Rattle.pieces.specs.Seen.{binary_number, unary_number, level_of, piece_of, keep, Fine, Looks, LooksAs, Seen, Tied, Untied};
 
 use super::lex::next_piece;
-use super::names::{is_name, number, same_word};
+use super::names::{is_name, number};
 use super::piece::Piece;
+use super::words;
+
+// An operator between two, of those that work out both.
+#[derive(Clone, Copy, Debug, PartialEq, Eq)]
+pub enum Binary {
+    Add,
+    Subtract,
+    Multiply,
+    Divide,
+    Remainder,
+    Equal,
+    Unequal,
+    Less,
+    LessOrEqual,
+    Greater,
+    GreaterOrEqual,
+    BitAnd,
+    BitOr,
+    BitXor,
+    ShiftLeft,
+    ShiftRight,
+}
+
+// By its number in trees.
+impl From<Binary> for u32 {
+    ghost from_gives = { λ op n. n ≡ binary_number op };
+
+    fn from(op: Binary) -> u32 {
+        match op {
+            Binary::Add => 0,
+            Binary::Subtract => 1,
+            Binary::Multiply => 2,
+            Binary::Divide => 3,
+            Binary::Remainder => 4,
+            Binary::Equal => 5,
+            Binary::Unequal => 6,
+            Binary::Less => 7,
+            Binary::LessOrEqual => 8,
+            Binary::Greater => 9,
+            Binary::GreaterOrEqual => 10,
+            Binary::BitAnd => 11,
+            Binary::BitOr => 12,
+            Binary::BitXor => 13,
+            Binary::ShiftLeft => 14,
+            Binary::ShiftRight => 15,
+        }
+    }
+}
+
+// An operator before one.
+#[derive(Clone, Copy, Debug, PartialEq, Eq)]
+pub enum Unary {
+    Negate,
+    Not,
+    Invert,
+}
+
+// By its number in trees.
+impl From<Unary> for u32 {
+    ghost from_gives = { λ op n. n ≡ unary_number op };
+
+    fn from(op: Unary) -> u32 {
+        match op {
+            Unary::Negate => 0,
+            Unary::Not => 1,
+            Unary::Invert => 2,
+        }
+    }
+}
 
 // An operator between two.
-#[derive(Clone, Copy)]
+#[derive(Clone, Copy, Debug, PartialEq, Eq)]
 pub enum Op {
     Or,
     And,
-    // by its number
-    Two(u32),
+    Two(Binary),
 }
 
-#[derive(Clone, Copy)]
+impl Op {
+    // How tightly it holds.
+    pub fn level(self) -> u32
+        ensures { result ≡ level_of self }
+    {
+        match self {
+            Op::Or => 0,
+            Op::And => 1,
+            Op::Two(op) => match op {
+                Binary::Equal | Binary::Unequal => 2,
+                Binary::Less | Binary::LessOrEqual | Binary::Greater | Binary::GreaterOrEqual => 2,
+                Binary::BitOr | Binary::BitXor => 3,
+                Binary::BitAnd => 4,
+                Binary::ShiftLeft | Binary::ShiftRight => 5,
+                Binary::Add | Binary::Subtract => 6,
+                Binary::Multiply | Binary::Divide | Binary::Remainder => 7,
+            },
+        }
+    }
+}
+
+#[derive(Clone, Copy, Debug, PartialEq, Eq)]
 pub enum Look<'a> {
     Num(u64),
     Named(&'a [u8]),
-    // how tightly an operator between two holds, and which it is
-    Tie(u32, Op),
+    // an operator between two
+    Tie(Op),
     // between two or before one
     Minus,
-    // an operator before one, by its number
-    Before(u32),
+    // an operator before one
+    Before(Unary),
     OpenRound,
     ShutRound,
     OpenSquare,
@@ -49,17 +138,17 @@ fn look_sign<'a>(a: u8) -> Look<'a>
         b'[' => Look::OpenSquare,
         b',' => Look::Comma,
         b'-' => Look::Minus,
-        b'!' => Look::Before(1),
-        b'~' => Look::Before(2),
-        b'+' => Look::Tie(6, Op::Two(0)),
-        b'*' => Look::Tie(7, Op::Two(2)),
-        b'/' => Look::Tie(7, Op::Two(3)),
-        b'%' => Look::Tie(7, Op::Two(4)),
-        b'<' => Look::Tie(2, Op::Two(7)),
-        b'>' => Look::Tie(2, Op::Two(9)),
-        b'&' => Look::Tie(4, Op::Two(11)),
-        b'|' => Look::Tie(3, Op::Two(12)),
-        b'^' => Look::Tie(3, Op::Two(13)),
+        b'!' => Look::Before(Unary::Not),
+        b'~' => Look::Before(Unary::Invert),
+        b'+' => Look::Tie(Op::Two(Binary::Add)),
+        b'*' => Look::Tie(Op::Two(Binary::Multiply)),
+        b'/' => Look::Tie(Op::Two(Binary::Divide)),
+        b'%' => Look::Tie(Op::Two(Binary::Remainder)),
+        b'<' => Look::Tie(Op::Two(Binary::Less)),
+        b'>' => Look::Tie(Op::Two(Binary::Greater)),
+        b'&' => Look::Tie(Op::Two(Binary::BitAnd)),
+        b'|' => Look::Tie(Op::Two(Binary::BitOr)),
+        b'^' => Look::Tie(Op::Two(Binary::BitXor)),
         _ => Look::Other,
     }
 }
@@ -69,18 +158,19 @@ fn look_pair<'a>(a: u8, b: u8) -> Look<'a>
     ensures fine { Fine result (a ∷ b ∷ []) }
 {
     match (a, b) {
-        (b'|', b'|') => Look::Tie(0, Op::Or),
-        (b'&', b'&') => Look::Tie(1, Op::And),
-        (b'=', b'=') => Look::Tie(2, Op::Two(5)),
-        (b'!', b'=') => Look::Tie(2, Op::Two(6)),
-        (b'<', b'=') => Look::Tie(2, Op::Two(8)),
-        (b'>', b'=') => Look::Tie(2, Op::Two(10)),
-        (b'<', b'<') => Look::Tie(5, Op::Two(14)),
-        (b'>', b'>') => Look::Tie(5, Op::Two(15)),
+        (b'|', b'|') => Look::Tie(Op::Or),
+        (b'&', b'&') => Look::Tie(Op::And),
+        (b'=', b'=') => Look::Tie(Op::Two(Binary::Equal)),
+        (b'!', b'=') => Look::Tie(Op::Two(Binary::Unequal)),
+        (b'<', b'=') => Look::Tie(Op::Two(Binary::LessOrEqual)),
+        (b'>', b'=') => Look::Tie(Op::Two(Binary::GreaterOrEqual)),
+        (b'<', b'<') => Look::Tie(Op::Two(Binary::ShiftLeft)),
+        (b'>', b'>') => Look::Tie(Op::Two(Binary::ShiftRight)),
         _ => Look::Other,
     }
 }
 
+// No `match` on the word: of a byte string's arm a proof learns the length alone.
 fn look_word<'a>(w: &'a [u8]) -> Look<'a>
     requires { word_bytes w.now ≡ true }
     ensures { Looks result w.now }
@@ -91,13 +181,13 @@ fn look_word<'a>(w: &'a [u8]) -> Look<'a>
     if is_name(w) {
         return Look::Named(w);
     }
-    if same_word(w, b"len") {
+    if w == words::LEN {
         return Look::Len;
     }
-    if same_word(w, b"call") {
+    if w == words::CALL {
         return Look::Call;
     }
-    if same_word(w, b"in") {
+    if w == words::IN {
         return Look::In;
     }
     Look::Other
@@ -124,14 +214,14 @@ pub fn see<'a>(text: &'a [u8]) -> (Look<'a>, &'a [u8])
     (look_piece(piece), rest)
 }
 
-// An operator between two that stands first, with how tightly it holds and what is left behind it.
-pub fn see_op<'a>(text: &'a [u8]) -> Option<(u32, Op, &'a [u8])>
-    ensures { MatchOption result (Untied text.now) (λ p. Tied p.0 p.1 text.now p.2.now) }
+// An operator between two that stands first, and what is left behind it.
+pub fn see_op<'a>(text: &'a [u8]) -> Option<(Op, &'a [u8])>
+    ensures { MatchOption result (Untied text.now) (λ p. Tied p.0 text.now p.1.now) }
 {
     let (look, rest) = see(text);
     match look {
-        Look::Tie(l, op) => Some((l, op, rest)),
-        Look::Minus => Some((6, Op::Two(1), rest)),
+        Look::Tie(op) => Some((op, rest)),
+        Look::Minus => Some((Op::Two(Binary::Subtract), rest)),
         _ => None,
     }
 }

@@ -2,7 +2,7 @@
 ghost use Rattle.reports.specs.Nesting.{PastLimit};
 
 use crate::places::offset;
-use pieces::flat::{open_after, signs_after};
+use pieces::flat::Nesting;
 use pieces::next_piece;
 use pieces::piece::Piece;
 use pieces::refused::Reason;
@@ -20,27 +20,25 @@ pub fn past_limit(text: &[u8]) -> Option<Refusal>
 {
     let mut rest = text;
     let mut last = text;
-    let mut open = 0;
-    let mut signs = 0;
+    let mut nesting = Nesting::default();
     loop {
         let (piece, behind) = next_piece(rest);
         if let Piece::End = piece {
             return None;
         }
-        if open > 40 {
+        if nesting.brackets > 40 {
             return Some(Refusal {
                 at: offset(text, last),
                 reason: Reason::BracketsTooDeep,
             });
         }
-        if signs > 40 {
+        if nesting.signs > 40 {
             return Some(Refusal {
                 at: offset(text, last),
                 reason: Reason::SignsTooMany,
             });
         }
-        open = open_after(piece, open);
-        signs = signs_after(piece, signs);
+        nesting = nesting.after(piece);
         last = rest;
         rest = behind;
     }

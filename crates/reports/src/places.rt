@@ -3,7 +3,7 @@ ghost use Rattle.std.specs.Prelude.{◌≤◌, length};
 
 use pieces::piece::Piece;
 use pieces::refused::{Reason, refuse};
-use pieces::{is_name, next_piece, number, same_word};
+use pieces::{is_name, next_piece, number, words};
 
 // Numbers of the language are below this.
 const BASE: u64 = 4294967296;
@@ -50,8 +50,8 @@ pub fn is_sought(piece: Piece, sought: Sought) -> bool {
         Sought::Name => is_name(w),
         Sought::Number => number(w).is_some(),
         Sought::Large => is_large(w),
-        Sought::Leaving => same_word(w, b"break") || same_word(w, b"continue"),
-        Sought::File => same_word(w, b"file"),
+        Sought::Leaving => w == words::BREAK || w == words::CONTINUE,
+        Sought::File => w == words::FILE,
     }
 }
 

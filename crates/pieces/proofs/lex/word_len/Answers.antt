@@ -1,16 +1,17 @@
 -- Proof of `word_len`.
-use Rattle.std.proofs.Common.{sym, refl, ◌∙◌, arith}
-use Rattle.pieces.proofs.Lexing.{word-bytes-on, word_more, word-stop, word_end}
+use Rattle.std.proofs.Common.{◌∙◌, arith, rules, tests}
+use Rattle.std.specs.List.{prefix_len}
+use Rattle.std.proofs.lemmas.Iterator.{YieldsList-from_slice}
+use Rattle.std.proofs.lemmas.Iterator.Consumers.{count_from_yields_List}
+use Rattle.std.proofs.lemmas.Iterator.Search.{YieldsList-from_take_while}
+use Rattle.std.proofs.lemmas.List.Folds.{length-prefix_len}
+use Rattle.std.proofs.lemmas.List.Sums.{prefix_len-le-length}
+use Rattle.grammar.specs.Text.{word_byte}
+use Rattle.pieces.proofs.Lexing.{word_run, word_whole, word-some}
 use Rattle.pieces.proofs.lex.word_len.Goals as goal
 
-pub loop-n-init : goal.loop-n-init
-loop-n-init c = (omega arith, word-bytes-on c.args.text.now 0 c.requires.some refl c.requires.first, c.requires.some, word_more c.args.text.now 0 c.requires.some c.requires.first)
-
-pub loop-n-preserved : goal.loop-n-preserved
-loop-n-preserved c = (omega arith, word-bytes-on c.args.text.now c.loop-n.n (omega arith) c.loop-n.invariant.1 (sym c.if-is_word_byte.ensures), omega arith, c.loop-n.invariant.3 ∙ word_more c.args.text.now c.loop-n.n (omega arith) (sym c.if-is_word_byte.ensures))
-
-pub returns-else-is_word_byte : goal.returns-else-is_word_byte
-returns-else-is_word_byte c = record { some = omega arith; all = c.loop-n.invariant.1; within = omega arith; is = c.loop-n.invariant.3 ∙ word-stop c.args.text.now c.loop-n.n (omega arith) (sym c.if-is_word_byte.ensures) }
-
-pub returns-after-loop-n : goal.returns-after-loop-n
-returns-after-loop-n c = record { some = omega arith; all = c.loop-n.invariant.1; within = omega arith; is = c.loop-n.invariant.3 ∙ word_end c.args.text.now c.loop-n.n (omega arith) }
+pub returns : goal.returns
+returns c =
+    let s = c.args.text.now in
+    let n = count_from_yields_List c.take_while.result _ c.count.ensures.ran (YieldsList-from_take_while _ word_byte (YieldsList-from_slice s cc) c.take_while.ensures.closure c.take_while.ensures.done (λ x b q k. search (rules, tests))) ∙ length-prefix_len word_byte s in
+    rw n (record { some = word-some s c.requires.some c.requires.first; all = (word_run s (prefix_len word_byte s) (omega arith)).0; within = prefix_len-le-length word_byte s; is = word_whole s })

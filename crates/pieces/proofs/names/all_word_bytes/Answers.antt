@@ -1,15 +1,14 @@
 -- Proof of `all_word_bytes`.
-use Rattle.std.proofs.Common.{sym, ◌∙◌, arith}
-use Rattle.std.proofs.lemmas.List.{at_drop_all}
-use Rattle.grammar.specs.Text.{word_bytes}
-use Rattle.pieces.proofs.Naming.{word-bytes-more, word-bytes-stop}
+use Rattle.std.proofs.Common.{◌≡◌, ◌&&◌, ◌∙◌, refl, ap, List, ℕ, [], ◌∷◌, rules, tests}
+use Rattle.std.specs.List.{list_all}
+use Rattle.std.proofs.lemmas.Iterator.{YieldsList-from_slice}
+use Rattle.std.proofs.lemmas.Iterator.Search.{all_from_yields_List}
+use Rattle.grammar.specs.Text.{word_byte, word_bytes}
 use Rattle.pieces.proofs.names.all_word_bytes.Goals as goal
 
-pub returns-then-not-is_word_byte : goal.returns-then-not-is_word_byte
-returns-then-not-is_word_byte c = sym (c.loop-c.invariant ∙ word-bytes-stop c.args.w.now c.loop-c.c-index (omega arith) (sym c.if-not-is_word_byte.ensures))
-
-pub loop-c-preserved : goal.loop-c-preserved
-loop-c-preserved c = c.loop-c.invariant ∙ word-bytes-more c.args.w.now c.loop-c.c-index (omega arith) (sym c.if-not-is_word_byte.ensures)
+all_is : (s : List ℕ) → list_all word_byte s ≡ word_bytes s
+all_is [] = refl
+all_is (c ∷ s) = ap (λ b. word_byte c && b) (all_is s)
 
 pub returns : goal.returns
-returns c = sym (c.loop-c.invariant ∙ at_drop_all word_bytes c.args.w.now c.loop-c.c-index (omega arith))
+returns c = all_from_yields_List word_byte _ _ c.all.result c.all.ensures.ran (YieldsList-from_slice c.args.w.now cc) (λ x b q k. search (rules, tests)) ∙ all_is c.args.w.now
