@@ -1,16 +1,15 @@
 -- What `read` answers for a text: with too few work words nothing is looked at; else the text is no program, or the row of the one program
 -- that it is stands in the work words, and its stage is known.
-use Rattle.std.specs.Prelude.{◌≡◌, ℕ, ◌+◌, ◌*◌, ◌<◌, ◌≤◌, T, List, [], length, take, Result, Ok, Err, MatchResult}
+use Rattle.std.specs.Prelude.{◌≡◌, ℕ, ◌+◌, ◌*◌, ◌<◌, ◌≤◌, T, List, [], length, take, Result, Ok, Err}
 use Rattle.std.proofs.Math.Option.{some, none}
 use Rattle.language.specs.Syntax.{Prog, stage}
 use Rattle.grammar.specs.Text.{pieces, gap, AreFiles}
 use Rattle.grammar.specs.Parse.{got}
 use Rattle.grammar.specs.ParseAll.{parse}
 use Rattle.grammar.specs.Reading.{small, reading}
-use Rattle.pieces.specs.declared.refused.Refused.{Refused}
-use Rattle.parser.specs.Programs.{Unread}
 use Rattle.rows.specs.Trees.{prog_row}
 use Rattle.generator.specs.ResolvedRows.{resolved_words, resolve_prog}
+use Rattle.front.specs.declared.parsed.Parsed.{Parsed}
 use Rattle.front.specs.declared.Tree.{Tree}
 use Rattle.front.specs.declared.Unreadable.{Unreadable}
 use Rattle.front.specs.declared.Unreadable.TheVariants.{Few, NoProgram}
@@ -31,17 +30,15 @@ pub record IsProgram (t : List ℕ) (tree : Tree) : Type 0 where
   pub stage_is : tree.stage ≡ stage program
   pub resolved_is : tree.resolved.now ≡ resolved_words (resolve_prog program)
 
--- a text as the model parser reads it, and the row of its tree in the first n words
-pub record IsParsed (t w : List ℕ) (n : ℕ) : Type 0 where
+-- a text as the model parser reads it, the row of its tree, and the words that are left of w
+pub record IsParsed (t : List ℕ) (w : ℕ) (a : Parsed) : Type 0 where
   pub program : Prog
   pub said : AreFiles (pieces gap t) program
   pub parsed : parse (pieces gap t) ≡ got program []
   pub fits : T (small t)
-  pub row_is : take n w ≡ prog_row program
-  pub inside : n ≤ length w
-
-abbrev pub ParsedTo : List ℕ → List ℕ → Result ℕ Refused → Type 0
-ParsedTo t w r = MatchResult r (IsParsed t w) (λ _. Unread t)
+  pub row_is : a.row.now ≡ prog_row program
+  pub short : length a.row.now ≤ 4 * length t + 1
+  pub left : length a.pile.now + (4 * length t + 1) ≡ w
 
 abbrev pub ReadSays : List ℕ → ℕ → Result Tree Unreadable → Type 0
 ReadSays t w (Ok tree) = (work_words t ≤ w) × IsProgram t tree × (length tree.rest.now + (7 * length t + 5) ≡ w)

@@ -1,15 +1,19 @@
 // The reading half of the compiler: a text of any bytes is answered exactly as the definitions answer it.
 #![tactic(auto)]
 
-ghost use Rattle.std.specs.Prelude.{◌≡◌, ◌+◌, ◌*◌, ◌<◌, ◌≤◌, true, ◌&&◌, length, nat_lt};
+ghost use Rattle.std.specs.Prelude.{◌≡◌, ◌+◌, ◌*◌, ◌<◌, ◌≤◌, true, ◌&&◌, length, nat_lt, MatchResult};
 ghost use Rattle.language.specs.Syntax.{Prog};
 ghost use Rattle.language.specs.Checks.{ok};
 ghost use Rattle.rows.specs.Trees.{prog_row};
 ghost use Rattle.generator.specs.ResolvedRows.{resolved_words, resolve_prog};
-ghost use Rattle.front.specs.Answers.{ParsedTo, ReadSays, Begins};
+ghost use Rattle.parser.specs.Programs.{Unread};
+ghost use Rattle.front.specs.Answers.{work_words, IsParsed, ReadSays, Begins};
+
+mod parsed;
 
 use limits::{fits, stage};
 use names::items::check_names;
+pub use parsed::Parsed;
 use parser::parse;
 use pieces::refused::Refused;
 use resolver::resolve_program;
@@ -52,14 +56,19 @@ fn is_checked(row: &[u32], pile: &mut [u32]) -> bool
     fits(row) & check_names(row, pile)
 }
 
-// Writes the row of the program that a text is, before the checks, and says how many words it has; or where and why there is none.
-pub fn parse_row(text: &[u8], words: &mut [u32]) -> Result<usize, Refused>
-    requires { 4 * length text.now + 1 ≤ length words.old }
-    ensures { ParsedTo text.now words.new result }
+// Writes the row of the tree of a text, before the checks; or says where and why there is none.
+pub fn parse_words<'a>(text: &[u8], work: &'a mut [u32]) -> Result<Parsed<'a>, Refused>
+    requires { work_words text.now ≤ length work.old }
+    ensures { MatchResult result (IsParsed text.now (length work.old)) (λ _. Unread text.now) }
 {
+    let (words, pile) = work.split_at_mut(4 * text.len() + 1);
     let mut out = Row { words, len: 0 };
     parse(text, &mut out)?;
-    Ok(out.len)
+    let Row { words, len } = out;
+    Ok(Parsed {
+        row: &words[..len],
+        pile,
+    })
 }
 
 // Writes the program of a row with its names resolved, if there is room, and says how many words were written.
@@ -87,15 +96,14 @@ pub fn read<'a>(text: &[u8], work: &'a mut [u32]) -> Result<Tree<'a>, Unreadable
     if is_few(work.len(), text.len()) {
         return Err(Unreadable::Few);
     }
-    let (words, rest) = work.split_at_mut(4 * text.len() + 1);
-    let Ok(n) = parse_row(text, words) else {
+    let Ok(parsed) = parse_words(text, work) else {
         return Err(Unreadable::NoProgram);
     };
-    let row = &words[..n];
-    if !is_checked(row, rest) {
+    let Parsed { row, pile } = parsed;
+    if !is_checked(row, pile) {
         return Err(Unreadable::NoProgram);
     }
-    let (names, rest) = rest.split_at_mut(3 * text.len() + 4);
+    let (names, rest) = pile.split_at_mut(3 * text.len() + 4);
     let resolved = resolve_row(row, names);
     Ok(Tree {
         stage: stage(row),

@@ -1,5 +1,5 @@
 -- `read`: the parser's answer and the checks' together.
-use Rattle.std.proofs.Common.{◌≡◌, Bool, true, sym, refl, ap, ◌∙◌, arith, length-take}
+use Rattle.std.proofs.Common.{◌≡◌, Bool, true, sym, refl, ap, ◌∙◌, arith}
 use mathlib.Core.Option.{some, none}
 use Rattle.language.specs.Syntax.{pick}
 use Rattle.language.specs.Checks.{ok}
@@ -29,7 +29,7 @@ returns c =
         read_as = read;
         row_is = q.row_is;
         stage_is = c.stage.ensures q.program q.row_is;
-        resolved_is = c.resolve_row-resolved.ensures.is q.program q.row_is is_ok (omega (arith, length-take c.in-Ok.n c.parse_row.new.words, q.inside, bytes-few c.args.text.now q.fits)) (omega (arith, short));
+        resolved_is = c.resolve_row-resolved.ensures.is q.program q.row_is is_ok (omega (arith, q.short, bytes-few c.args.text.now q.fits)) (omega (arith, short));
       },
       omega arith,
     )
