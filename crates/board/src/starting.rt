@@ -35,7 +35,7 @@ pub fn start(image: &[u32], at: u32, top: u32, registers: [u32; 32], memory: &mu
 #[cfg(test)]
 mod tests {
     use super::*;
-    use processor::{Event, run};
+    use processor::{Event, Halt};
     use std::alloc::Global;
     use std::process::Abort;
     use std::test::Fail;
@@ -61,10 +61,10 @@ mod tests {
             return Err(Fail::new("it was not placed"));
         };
         let mut output = [0; 4];
-        let ran = run(&mut cpu, memory.as_mut_slice(), &[], &mut output, 100);
+        let ran = cpu.run(memory.as_mut_slice(), &[], &mut output, 100);
         assert_eq!(rt; ran.shown, 1);
         assert_eq!(rt; output[0], 10);
-        assert!(rt; matches!(ran.event, Event::End(100)));
+        assert_eq!(rt; ran.event, Event::Halts(Halt::End(100)));
         Ok(())
     }
 

@@ -1,12 +1,13 @@
 -- The bit by bit operations are those of the code.
-use Rattle.std.proofs.Common.{◌≡◌, ℕ, zero, suc, ◌+◌, ◌-◌, ◌*◌, ◌/◌, ◌%◌, ◌^◌, ◌<◌, ◌≤◌, min, max, Bool, ◌&&◌, ◌||◌, sym, ap, ◌∙◌, subst, suc-le-suc, le_trans, mod-eq_of_lt, add_comm, arith, lit<, le-ltb, lt-ltb}
+use Rattle.std.proofs.Common.{◌≡◌, ℕ, ℤ, pos, negsuc, zero, suc, ◌+◌, ◌-◌, ◌*◌, ◌/◌, ◌%◌, ◌^◌, ◌<◌, ◌≤◌, min, max, Bool, true, false, ◌&&◌, ◌||◌, ltb, sym, refl, ap, ◌∙◌, subst, suc-le-suc, le_trans, mod-eq_of_lt, add_comm, arith, lit<, le-ltb, lt-ltb, ltb-true, ltb-false}
 use Rattle.std.proofs.lemmas.Nat.{one_shl}
 use lib.Arith.{lt-one}
 use lib.Pow.{split, shr_le}
 use Rattle.language.specs.Syntax.{pick}
 use Rattle.processor.specs.Machine.{sar}
-use lib.Bits.{or_shifted, and_mask, bit_and, bit_or, bit_xor, xor_lt, and_step, or_step, xor_step, and_zero_l, differ}
+use lib.Bits.{or_shifted, and_mask, bit_and, bit_or, bit_xor, and_step, or_step, xor_step, and_zero_l, and_comm, xor_add_and, differ}
 use Rattle.processor.specs.Instr.{word, Fit}
+use Rattle.std.specs.Int.{cast_unsigned, cast_signed, int_shr, w32}
 use Rattle.language.specs.Words.{bit, odd, bits, xor1, and_w, or_w, xor_w, shl, shr}
 
 half : (n x : ℕ) → x < 2 ^ suc n → x / 2 < 2 ^ n
@@ -82,15 +83,38 @@ shl_is x n h = rw (lt-ltb n 32 h, mod-eq_of_lt h)
 pub shr_is : (x n : ℕ) → n < 32 → shr x n ≡ x / 2 ^ n
 shr_is x n h = rw (lt-ltb n 32 h, mod-eq_of_lt h)
 
-pub sar_low : (x n : ℕ) → x < 2147483648 → n < 32 → sar x n ≡ x / 2 ^ n
+-- the bits that are not set
+ones_xor : (x : ℕ) → x < 2 ^ 32 → bit_xor 4294967295 x ≡ 4294967295 - x
+ones_xor x h = omega (arith, xor_add_and 4294967295 x, and_comm 4294967295 x, and_mask x 32)
+
+sar_low : (x n : ℕ) → x < 2147483648 → n < 32 → sar x n ≡ x / 2 ^ n
 sar_low x n l h = ap (λ (b : Bool). pick b (shr x n) (xor_w 4294967295 (shr (xor_w 4294967295 x) n))) (lt-ltb x 2147483648 l) ∙ shr_is x n h
 
-pub sar_high : (x n : ℕ) → 2147483648 ≤ x → x < 2 ^ 32 → n < 32 → sar x n ≡ bit_xor 4294967295 (bit_xor 4294967295 x / 2 ^ n)
+sar_high : (x n : ℕ) → 2147483648 ≤ x → x < 2 ^ 32 → n < 32 → sar x n ≡ 4294967295 - (4294967295 - x) / 2 ^ n
 sar_high x n l k h =
-    let y = bit_xor 4294967295 x in
-    let y_lt : y < 2 ^ 32 = xor_lt 32 4294967295 x (lit< tt) k in
-    let z_lt : y / 2 ^ n < 2 ^ 32 = le_trans (suc-le-suc (shr_le y n)) y_lt in
+    let y = 4294967295 - x in
+    let z_lt : y / 2 ^ n < 2 ^ 32 = le_trans (suc-le-suc (shr_le y n)) (omega arith) in
     ap (λ (b : Bool). pick b (shr x n) (xor_w 4294967295 (shr (xor_w 4294967295 x) n))) (le-ltb x 2147483648 l)
-    ∙ ap (λ (z : ℕ). xor_w 4294967295 (shr z n)) (xor_is 4294967295 x (lit< tt) k)
+    ∙ ap (λ (z : ℕ). xor_w 4294967295 (shr z n)) (xor_is 4294967295 x (lit< tt) k ∙ ones_xor x k)
     ∙ ap (λ (z : ℕ). xor_w 4294967295 z) (shr_is y n h)
     ∙ xor_is 4294967295 (y / 2 ^ n) (lit< tt) z_lt
+    ∙ ones_xor (y / 2 ^ n) z_lt
+
+signed_low : (x : ℕ) → x < 2147483648 → cast_signed w32 x ≡ pos x
+signed_low x l = rw (lt-ltb x 2147483648 l)
+
+signed_high : (x : ℕ) → 2147483648 ≤ x → x < 2 ^ 32 → cast_signed w32 x ≡ negsuc (4294967295 - x)
+signed_high x l k = rw (le-ltb x 2147483648 l) (ap negsuc (omega arith))
+
+-- a shift of the number with a sign
+pub sar_is : (x n : ℕ) → x < 2 ^ 32 → n < 32 → cast_unsigned w32 (int_shr (cast_signed w32 x) n) ≡ sar x n
+sar_is x n k h = go (ltb x 2147483648) refl
+  where
+    go : (b : Bool) → ltb x 2147483648 ≡ b → cast_unsigned w32 (int_shr (cast_signed w32 x) n) ≡ sar x n
+    go true e =
+        let l = ltb-true x 2147483648 e in
+        ap (λ (z : ℤ). cast_unsigned w32 (int_shr z n)) (signed_low x l) ∙ sym (sar_low x n l h)
+    go false e =
+        let l = ltb-false x 2147483648 e in
+        let q : 4294967296 - suc ((4294967295 - x) / 2 ^ n) ≡ 4294967295 - (4294967295 - x) / 2 ^ n = omega arith in
+        ap (λ (z : ℤ). cast_unsigned w32 (int_shr z n)) (signed_high x l k) ∙ q ∙ sym (sar_high x n l k h)

@@ -1,5 +1,5 @@
 -- Which instruction a word is, in the order in which the processor looks.
-use Rattle.std.specs.Prelude.{ℕ, ◌/◌, ◌%◌, ◌<◌, Bool, true, ◌&&◌, ◌||◌, Some, None, Option, ◌==◌}
+use Rattle.std.specs.Prelude.{◌≡◌, ◌≢◌, ℕ, ◌/◌, ◌%◌, ◌<◌, Bool, true, ◌&&◌, ◌||◌, Some, None, Option, Result, MatchResult, ◌==◌}
 use Rattle.language.specs.Syntax.{pick}
 use Rattle.processor.specs.Machine.{Machine, Next, faults, f_op, f_rd, f_3, f_1, f_2, f_7, imm_i_of, imm_s_of, imm_b_of, imm_j_of}
 use Rattle.processor.specs.Instr.{exec}
@@ -70,3 +70,7 @@ Regs Ecall = Unit {0}
 abbrev pub Known : Option Instr → Type 0
 Known None = Unit {0}
 Known (Some i) = Regs i
+
+-- what has these bits, or that nothing has them
+abbrev pub ReadsBack : {A E : Type 0} → (A → ℕ) → ℕ → Result A E → Type 0
+ReadsBack bits n r = MatchResult r (λ x. bits x ≡ n) (λ _. (x : _) → bits x ≢ n)

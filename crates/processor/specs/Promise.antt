@@ -9,20 +9,26 @@ use Rattle.processor.specs.declared.instr.Instr.{Instr}
 use Rattle.processor.specs.declared.cpu.Cpu.{Cpu}
 use Rattle.processor.specs.declared.cpu.Event.{Event}
 use Rattle.processor.specs.declared.running.Ran.{Ran}
-use Rattle.processor.specs.declared.cpu.Event.TheVariants.{Goes, Out, In, End, Trap, NoRoom, Fault}
+use Rattle.processor.specs.declared.cpu.Event.TheVariants.{Goes, Out, In, Halts}
+use Rattle.processor.specs.declared.cpu.Halt.{Halt}
+use Rattle.processor.specs.declared.cpu.Halt.TheVariants.{End, Trap, NoRoom, Fault}
 
 abbrev pub machine : List ℕ → List ℕ → Cpu → List ℕ → Machine
 machine ins outs c mem = record { regs = c.regs; pc = c.pc; mem = mem; ins = ins; outs = outs }
+
+-- how a processor came to a halt
+abbrev pub ends : Halt → Machine → Next
+ends (End x) m = halts 0 x m
+ends (Trap x) m = halts 3 x m
+ends NoRoom m = halts 4 0 m
+ends Fault m = faults
 
 -- what an event says of the step, with the processor after it
 abbrev pub says : Event → Machine → Next
 says Goes m = goes m
 says (Out x) m = goes (record { regs = m.regs; pc = m.pc; mem = m.mem; ins = m.ins; outs = m.outs ++ (x ∷ []) })
 says In m = reads m m.ins
-says (End x) m = halts 0 x m
-says (Trap x) m = halts 3 x m
-says NoRoom m = halts 4 0 m
-says Fault m = faults
+says (Halts h) m = ends h m
 
 abbrev pub reg_of : List ℕ → ℕ → ℕ
 reg_of rs r = pick (r == 0) 0 (opt (nth rs r) 0 (λ x. x))
@@ -70,10 +76,7 @@ abbrev pub Stops : Event → ℕ → ℕ → ℕ → ℕ → Type 0
 Stops Goes made steps shown room = made ≡ steps
 Stops (Out x) made steps shown room = shown ≡ room
 Stops In made steps shown room = ⊥
-Stops (End x) made steps shown room = Unit {0}
-Stops (Trap x) made steps shown room = Unit {0}
-Stops NoRoom made steps shown room = Unit {0}
-Stops Fault made steps shown room = Unit {0}
+Stops (Halts h) made steps shown room = Unit {0}
 
 -- a step that the processor goes on from
 abbrev pub Going : Next → Type 0
@@ -81,13 +84,17 @@ Going (goes m) = Unit {0}
 Going (halts c x m) = ⊥
 Going faults = ⊥
 
+-- what is left of a list, behind some of it
+abbrev pub Rest : List ℕ → List ℕ → Type 0
+Rest xs ys = (n : ℕ) × (n ≤ length xs) × (ys ≡ drop n xs)
+
 -- a run of at most so many steps, from a processor with words to read and nothing put out
 pub record RunsAs (steps : ℕ) (input : List ℕ) (c : Cpu) (mem output : List ℕ) (r : Ran) (c' : Cpu) (mem' output' : List ℕ) : Type 0 where
   pub in_budget : r.steps ≤ steps
   pub makes_some : 0 < steps → 0 < r.steps
-  pub comes_to : after r.steps (machine input [] c mem) ≡ says r.event (machine (drop r.taken input) (take r.shown output') c' mem')
+  pub comes_to : after r.steps (machine input [] c mem) ≡ says r.event (machine r.input.now (take r.shown output') c' mem')
   pub goes_before : (j : ℕ) → j < r.steps → Going (after j (machine input [] c mem))
   pub stops : Stops r.event r.steps steps r.shown (length output)
-  pub in_input : r.taken ≤ length input
+  pub in_input : Rest input r.input.now
   pub in_output : r.shown ≤ length output
   pub behind : drop r.shown output' ≡ drop r.shown output

@@ -1,10 +1,11 @@
 // Instructions as words: the fields of a word, and `encode`, which puts a word together.
 ghost use Rattle.std.specs.Prelude.{◌≡◌, ℕ, ◌+◌, ◌-◌, ◌*◌, ◌/◌, ◌%◌, ◌^◌, ◌<◌, ◌≤◌, Some};
 ghost use Rattle.processor.specs.Decode.{decode as decoded, Regs};
-ghost use Rattle.processor.specs.Instr.{word as laid, encode as coded, cond3, imm3, shift3, shift7, alu3, alu7, prod3, Fit, Wf, Means};
+ghost use Rattle.processor.specs.Instr.{word as laid, encode as coded, Fit, Wf, Means};
 
-use super::instr::{Alu, Cond, Imm, Instr, Prod, Shift};
+use super::instr::Instr;
 
+// The manual's numbers of the formats, in the lowest seven bits: constants, so that a `match` on them reads as its table.
 pub const OP_LUI: u32 = 0x37;
 
 pub const OP_AUIPC: u32 = 0x17;
@@ -49,80 +50,6 @@ fn put_fields(op: u32, rd: u32, f3: u32, r1: u32, r2: u32, f7: u32) -> u32
     f7 << 25 | r2 << 20 | r1 << 15 | f3 << 12 | rd << 7 | op
 }
 
-// The three bits of field 3 of a branch.
-fn cond_bits(c: Cond) -> u32
-    ensures { (result ≡ cond3 c) × (result < 8) }
-{
-    match c {
-        Cond::Beq => 0,
-        Cond::Bne => 1,
-        Cond::Blt => 4,
-        Cond::Bge => 5,
-        Cond::Bltu => 6,
-        Cond::Bgeu => 7,
-    }
-}
-
-fn imm_bits(f: Imm) -> u32
-    ensures { (result ≡ imm3 f) × (result < 8) }
-{
-    match f {
-        Imm::Addi => 0,
-        Imm::Slti => 2,
-        Imm::Sltiu => 3,
-        Imm::Xori => 4,
-        Imm::Ori => 6,
-        Imm::Andi => 7,
-    }
-}
-
-// Fields 3 and 7 of a shift by a number.
-fn shift_bits(f: Shift) -> (u32, u32)
-    ensures { (result ≡ (shift3 f, shift7 f)) × ((result.0 < 8) × (result.1 < 128)) }
-{
-    match f {
-        Shift::Slli => (1, 0),
-        Shift::Srli => (5, 0),
-        Shift::Srai => (5, 32),
-    }
-}
-
-fn alu_bits(f: Alu) -> (u32, u32)
-    ensures { (result ≡ (alu3 f, alu7 f)) × ((result.0 < 8) × (result.1 < 128)) }
-{
-    match f {
-        Alu::Add => (0, 0),
-        Alu::Sub => (0, 32),
-        Alu::Sll => (1, 0),
-        Alu::Slt => (2, 0),
-        Alu::Sltu => (3, 0),
-        Alu::Xor => (4, 0),
-        Alu::Srl => (5, 0),
-        Alu::Sra => (5, 32),
-        Alu::Or => (6, 0),
-        Alu::And => (7, 0),
-    }
-}
-
-fn prod_bits(f: Prod) -> u32
-    ensures { (result ≡ prod3 f) × (result < 8) }
-{
-    match f {
-        Prod::Mul => 0,
-        Prod::Mulhu => 3,
-        Prod::Divu => 5,
-        Prod::Remu => 7,
-    }
-}
-
-// The fields of an instruction, one after the other.
-fn lay_out(i: Instr) -> u32
-    requires { Wf i }
-    ensures { result ≡ coded i }
-{
-    lay_out_parts(i)
-}
-
 // The fields of an instruction, one after the other; of a number that does not fit, the bits that there is room for.
 pub fn lay_out_parts(i: Instr) -> u32
     requires { Regs i }
@@ -143,7 +70,7 @@ pub fn lay_out_parts(i: Instr) -> u32
         Instr::Branch(c, r1, r2, x) => put_fields(
             OP_BRANCH,
             above(part(x, 1, 4), 1, part(x, 11, 1)),
-            cond_bits(c),
+            c as u32,
             r1,
             r2,
             above(part(x, 12, 1), 6, part(x, 5, 6)),
@@ -153,20 +80,23 @@ pub fn lay_out_parts(i: Instr) -> u32
         Instr::OpImm(f, rd, r1, x) => put_fields(
             OP_IMM,
             rd,
-            imm_bits(f),
+            f as u32,
             r1,
             part(x, 0, 5),
             part(x, 5, 7),
         ),
         Instr::OpShift(f, rd, r1, n) => {
-            let (f3, f7) = shift_bits(f);
-            put_fields(OP_IMM, rd, f3, r1, n, f7)
+            let bits = f as u32;
+            put_fields(OP_IMM, rd, bits % 8, r1, n, bits / 8)
         }
         Instr::Op(f, rd, r1, r2) => {
-            let (f3, f7) = alu_bits(f);
-            put_fields(OP_REG, rd, f3, r1, r2, f7)
+            let bits = f as u32;
+            put_fields(OP_REG, rd, bits % 8, r1, r2, bits / 8)
         }
-        Instr::OpProd(f, rd, r1, r2) => put_fields(OP_REG, rd, prod_bits(f), r1, r2, 1),
+        Instr::OpProd(f, rd, r1, r2) => {
+            let bits = f as u32;
+            put_fields(OP_REG, rd, bits % 8, r1, r2, bits / 8)
+        }
         Instr::Ecall => ECALL,
     }
 }
@@ -180,5 +110,5 @@ pub fn encode(i: Instr) -> u32
     ensures means { Means result i }
     ensures back { decoded result ≡ Some i }
 {
-    lay_out(i)
+    lay_out_parts(i)
 }

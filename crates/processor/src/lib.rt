@@ -11,11 +11,10 @@ mod executing;
 pub mod instr;
 mod running;
 
-pub use cpu::{Cpu, Event};
+pub use cpu::{Cpu, Event, Halt};
 pub use decoding::decode;
 pub use encoding::{encode, lay_out_parts};
-pub use executing::execute;
-pub use running::{Ran, answer, run, step};
+pub use running::Ran;
 
 // The small program of specs/Samples puts out 10 and ends with 100, by the definition alone.
 pub fn sample_loop_runs() -> bool

@@ -6,7 +6,7 @@ use anyhow::anyhow;
 use board::{
     Setting, Settings, Started, defaults, fill, read_words, set_option, start, words_of_bytes,
 };
-use processor::{Cpu, Event, run};
+use processor::{Cpu, Event};
 use std::alloc::Global;
 use std::io::Read;
 use std::{env, fs, io};
@@ -113,25 +113,21 @@ fn follow(
     rt: &HostRuntime,
     cpu: &mut Cpu,
     memory: &mut [u32],
-    input: &[u32],
+    mut input: &[u32],
     steps: u32,
 ) -> io::Result<()> {
     let mut output = [0; ROOM];
-    let mut taken: usize = 0;
     let mut left = steps;
+    // not a `for`: a turn takes as many steps as its run made
     while left > 0 {
-        let ran = run(cpu, memory, &input[taken..], &mut output, left.min(CHUNK));
-        taken += ran.taken;
+        let ran = cpu.run(memory, input, &mut output, left.min(CHUNK));
+        input = ran.input;
         left -= ran.steps;
-        let shown = ran.shown;
-        print_words(rt, &output[0..shown])?;
+        print_words(rt, &output[..ran.shown])?;
         match ran.event {
             Event::Goes | Event::In => {}
             Event::Out(word) => println!(rt; "{word}")?,
-            Event::End(word) => return println!(rt; "end {word}"),
-            Event::Trap(code) => return println!(rt; "trap {code}"),
-            Event::NoRoom => return println!(rt; "no room"),
-            Event::Fault => return println!(rt; "fault"),
+            Event::Halts(halt) => return println!(rt; "{halt}"),
         }
     }
     println!(rt; "steps")

@@ -1,33 +1,31 @@
-use Rattle.std.proofs.Common.{◌∙◌, arith}
-use Rattle.processor.proofs.Undo.{branch_arm, jalr_arm, lw_arm, sw_arm, prod_arm}
+use Rattle.std.proofs.Common.{sym, ◌∙◌, arith}
+use Rattle.processor.proofs.Undo.{none_read, some_read, nothing, branch_none, imm_none, prod_none, reg_none, reg_some}
 use Rattle.processor.proofs.decoding.decode.Goals as goal
 
-pub returns-in-99 : goal.returns-in-99
-returns-in-99 c = (
-  c.decode_branch.ensures.0 ∙ branch_arm c.args.w c.part.result _ _ _ _ c.part.ensures c.in-99.is c.part-f3.ensures c.part-r1.ensures c.part-r2.ensures c.imm_b.ensures,
-  c.decode_branch.ensures.1,
-)
+pub returns-in_err-ok-in-99 : goal.returns-in_err-ok-in-99
+returns-in_err-ok-in-99 c =
+    nothing _ _ c.from_residual.ensures
+    (branch_none c.args.w _ _ c.part.ensures c.part-f3.ensures c.in-99.is (none_read _ _ _ c.try_from.ensures c.in_err-ok-in-99.ensures.value))
 
-pub returns-then-f3-eq0 : goal.returns-then-f3-eq0
-returns-then-f3-eq0 c = (
-  jalr_arm c.args.w _ _ c.part.ensures c.part-f3.ensures _ _ _ c.in-103.is c.if-f3-eq0.true c.part-rd.ensures c.part-r1.ensures c.imm_i.ensures,
+pub returns-in_err-f-in-Err : goal.returns-in_err-f-in-Err
+returns-in_err-f-in-Err c =
+    nothing _ _ c.from_residual-in_err-f-in-Err.ensures
+    (imm_none c.args.w _ _ c.part.ensures c.part-f3.ensures c.in-19.is c.in-Err.ensures (λ f z. none_read _ _ _ c.try_from-in-Err.ensures c.in_err-f-in-Err.ensures.value f (z ∙ sym c.above.ensures)))
+
+pub returns-in_err-f-in-51 : goal.returns-in_err-f-in-51
+returns-in_err-f-in-51 c =
+    nothing _ _ c.from_residual-in_err-f-in-51.ensures
+    (prod_none c.args.w _ _ c.part.ensures c.part-f3.ensures c.in-51.is c.if-f7-eq1.true (λ f z. none_read _ _ _ c.try_from-then-f7-eq1.ensures c.in_err-f-in-51.ensures.value f (z ∙ sym c.above-then-f7-eq1.ensures)))
+
+pub returns-in_err-f-in-51-2 : goal.returns-in_err-f-in-51-2
+returns-in_err-f-in-51-2 c =
+    nothing _ _ c.from_residual-in_err-f-in-51-2.ensures
+    (reg_none c.args.w _ _ c.part.ensures c.part-f3.ensures c.in-51.is c.if-f7-eq1.false (λ f z. none_read _ _ _ c.try_from-else-f7-eq1.ensures c.in_err-f-in-51-2.ensures.value f (z ∙ sym c.above-else-f7-eq1.ensures)))
+
+pub returns-in_ok-f-in-51-2 : goal.returns-in_ok-f-in-51-2
+returns-in_ok-f-in-51-2 c = (
+  reg_some c.args.w _ _ c.part.ensures c.part-f3.ensures _ _ _ c.in_ok-f-in-51-2.f c.in-51.is
+      (some_read _ _ _ c.in_ok-f-in-51-2.f c.try_from-else-f7-eq1.ensures c.in_ok-f-in-51-2.ensures.value ∙ c.above-else-f7-eq1.ensures)
+      c.part-rd.ensures c.part-r1.ensures c.part-r2.ensures,
   omega arith,
-)
-
-pub returns-then-f3-eq2 : goal.returns-then-f3-eq2
-returns-then-f3-eq2 c = (
-  lw_arm c.args.w _ _ c.part.ensures c.part-f3.ensures _ _ _ c.in-3.is c.if-f3-eq2.true c.part-rd.ensures c.part-r1.ensures c.imm_i-then-f3-eq2.ensures,
-  omega arith,
-)
-
-pub returns-then-f3-eq2-2 : goal.returns-then-f3-eq2-2
-returns-then-f3-eq2-2 c = (
-  sw_arm c.args.w _ _ c.part.ensures c.part-f3.ensures _ _ _ c.in-35.is c.if-f3-eq2-2.true c.part-r1.ensures c.part-r2.ensures c.imm_s.ensures,
-  omega arith,
-)
-
-pub returns-then-f7-eq1 : goal.returns-then-f7-eq1
-returns-then-f7-eq1 c = (
-  c.decode_prod.ensures.0 ∙ prod_arm c.args.w c.part.result _ c.part.ensures c.part-f3.ensures _ _ _ c.in-51.is c.if-f7-eq1.true c.part-rd.ensures c.part-r1.ensures c.part-r2.ensures,
-  c.decode_prod.ensures.1,
 )
