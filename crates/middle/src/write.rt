@@ -10,6 +10,5 @@ use rows::row::Row;
 pub fn push_step(out: &mut Row, step: Step)
     ensures { Pushed out.old out.new (step_words (seen step)) }
 {
-    let [a, b, c, d, e] = <[u32; 5]>::from(step);
-    out.push5(a, b, c, d, e);
+    out.push_all(&<[u32; 5]>::from(step));
 }
