@@ -1,14 +1,14 @@
 -- Nodes and what they count: three words are the node that they were made from; how many values and steps a node can add.
-use Rattle.std.proofs.Common.{◌≡◌, ℕ, zero, suc, ◌+◌, ◌≤◌, max, true, List, [], ◌∷◌, length, get_or, refl, ap, ◌∙◌, arith, length-append}
+use Rattle.std.proofs.Common.{◌≡◌, ℕ, zero, suc, Result, ◌+◌, ◌≤◌, max, true, List, [], ◌∷◌, length, get_or, refl, ap, ◌∙◌, arith, length-append}
+use Rattle.std.specs.Result.{result_unwrap_or}
 use mathlib.Core.Bool.{false≢true}
-use Rattle.rows.specs.Has.{Has}
-use Rattle.rows.proofs.Having.{has-at}
 use Rattle.generator.specs.Resolved.{Resolved, v_num, v_own, v_copy, v_get, v_arr, v_bin, v_un, v_and, v_or, v_join, v_idx, v_len, v_call, v_by, v_in, v_set, v_setw, v_clear, v_store, v_ex, v_out, v_if, v_else, v_fi, v_loop, v_while, v_again, v_ret, v_break, v_next, v_end}
 use Rattle.generator.specs.ResolvedRows.{node_words}
 use Rattle.generator.specs.Emit.{Entry, e_temp, e_own, e_arr, above, under, top, below, Marks, emit}
 use Rattle.generator.specs.Peak.{piled, peak}
 use Rattle.generator.specs.Core.{core}
 use Rattle.stepper.specs.declared.node.Node.{Node}
+use Rattle.stepper.specs.declared.node.UnknownNode.{UnknownNode}
 use Rattle.stepper.specs.declared.node.Node.TheVariants.{Num, Own, Copy, Get, Bin, Un, And, Or, Join, Call, Set, SetWord, Clear, Forget, Out, If, Else, Fi, Loop, While, Again, Ret, Break, Next, End}
 use Rattle.stepper.specs.Nodes.{meant, decoded, counted}
 use Rattle.stepper.proofs.Targets.{aim-long}
@@ -51,7 +51,7 @@ node-long v_end = refl
 abbrev word : Resolved → ℕ → ℕ
 word v k = get_or (node_words v) k 0
 
-own-node : (b : ℕ) (v : Resolved) → core b v ≡ true → meant (decoded (word v 0) (word v 1) (word v 2)) ≡ v
+own-node : (b : ℕ) (v : Resolved) → core b v ≡ true → meant (result_unwrap_or (decoded (word v 0) (word v 1) (word v 2)) End) ≡ v
 own-node b (v_num n) h = refl
 own-node b (v_own k) h = refl
 own-node b (v_copy k) h = refl
@@ -84,13 +84,8 @@ own-node b v_break h = refl
 own-node b v_next h = refl
 own-node b v_end h = refl
 
-pub node-is : (b : ℕ) (v : Resolved) (w : List ℕ) (i x y z : ℕ) → core b v ≡ true → Has w i (node_words v) → x ≡ get_or w i 0 → y ≡ get_or w (i + 1) 0 → z ≡ get_or w (i + 2) 0 → meant (decoded x y z) ≡ v
-node-is b v w i x y z c h ex ey ez =
-    let l = node-long v in
-    let x1 : x ≡ word v 0 = ex ∙ (ap (λ n. get_or w n 0) (let k : i ≡ i + 0 = omega arith in k) ∙ has-at 0 h (omega arith)) in
-    let y1 : y ≡ word v 1 = ey ∙ has-at 1 h (omega arith) in
-    let z1 : z ≡ word v 2 = ez ∙ has-at 2 h (omega arith) in
-    ap (λ n. meant (decoded n y z)) x1 ∙ (ap (λ n. meant (decoded (word v 0) n z)) y1 ∙ (ap (λ n. meant (decoded (word v 0) (word v 1) n)) z1 ∙ own-node b v c))
+pub node-is : (b : ℕ) (v : Resolved) (ws : List ℕ) (r : Result Node UnknownNode) → core b v ≡ true → ws ≡ node_words v → r ≡ decoded (get_or ws 0 0) (get_or ws 1 0) (get_or ws 2 0) → meant (result_unwrap_or r End) ≡ v
+node-is b v ws r c e h = ap (λ x. meant (result_unwrap_or x End)) (h ∙ ap (λ l. decoded (get_or l 0 0) (get_or l 1 0) (get_or l 2 0)) e) ∙ own-node b v c
 
 -- no array waits
 abbrev pub Words : List Entry → Type 0

@@ -1,5 +1,5 @@
 -- What the code makes of a function's nodes, of a function, and of all functions.
-use Rattle.std.specs.Prelude.{◌≡◌, ℕ, ◌+◌, ◌<◌, ◌≤◌, true, List, [], length}
+use Rattle.std.specs.Prelude.{◌≡◌, ℕ, ◌+◌, ◌<◌, ◌≤◌, true, List, [], length, map, drop}
 use Rattle.rows.specs.declared.row.Row.{Row}
 use Rattle.rows.specs.Row.{Patched, Pushed}
 use Rattle.rows.specs.Has.{Has}
@@ -11,7 +11,7 @@ use Rattle.generator.specs.StepRows.{step_words, fn_words, base_of, made}
 use Rattle.generator.specs.Emit.{marks, run}
 use Rattle.generator.specs.Peak.{peak}
 use Rattle.generator.specs.Core.{core}
-use Rattle.stepper.specs.Stands.{Lent}
+use Rattle.stepper.specs.Swapped.{Lent}
 
 -- nodes of stage 0, with words enough for their pile, and numbers that words hold
 pub record Fit (b : ℕ) (vs : List Resolved) (words : ℕ) : Type 0 where
@@ -25,10 +25,10 @@ pub record BodyIs (b : ℕ) (vs : List Resolved) (d n : ℕ) (p q : Row) : Type 
   pub steps : n ≡ length (run b vs (marks [] 0 0 [])).out
   pub pushed : Pushed p q (list_row step_words (run b vs (marks [] 0 0 [])).out)
 
--- for all nodes that stand in the row from place at on
-pub record BodyDone (row : List ℕ) (at count b words : ℕ) (p : Row) (d n : ℕ) (q : Row) : Type 0 where
+-- for all nodes whose words these are
+pub record BodyDone (nodes : List (List ℕ)) (b words : ℕ) (p : Row) (d n : ℕ) (q : Row) : Type 0 where
   pub lent : Lent p q
-  pub body : (vs : List Resolved) → Has row at (list_row node_words vs) → count ≡ length vs → Fit b vs words → length row < 1073741824 → BodyIs b vs d n p q
+  pub body : (vs : List Resolved) → nodes ≡ map node_words vs → Fit b vs words → length vs < 1073741823 → BodyIs b vs d n p q
 
 -- a word put in where one was written
 pub record Filled (p q : Row) (at v : ℕ) : Type 0 where
@@ -40,12 +40,12 @@ pub record Good (g : Routine) (words : ℕ) : Type 0 where
   pub own : g.own ≡ []
   pub fit : Fit (base_of g) g.nodes words
 
--- its row was written, and the place behind it is r
-pub record RoutineIs (g : Routine) (at r : ℕ) (p q : Row) : Type 0 where
-  pub behind : r ≡ at + length (routine_words g)
+-- its row was written, and behind its words in the row stands r
+pub record RoutineIs (g : Routine) (row r : List ℕ) (p q : Row) : Type 0 where
+  pub behind : r ≡ drop (length (routine_words g)) row
   pub pushed : Pushed p q (fn_words (made g))
 
--- for all functions that stand in the row at this place
-pub record RoutineDone (row : List ℕ) (at words : ℕ) (p : Row) (r : ℕ) (q : Row) : Type 0 where
+-- for all functions that stand first in the row
+pub record RoutineDone (row : List ℕ) (words : ℕ) (p : Row) (r : List ℕ) (q : Row) : Type 0 where
   pub lent : Lent p q
-  pub routine : (g : Routine) → Has row at (routine_words g) → Good g words → length row < 1073741824 → RoutineIs g at r p q
+  pub routine : (g : Routine) → Has row 0 (routine_words g) → Good g words → length row < 1073741824 → RoutineIs g row r p q

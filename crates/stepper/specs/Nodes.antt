@@ -1,8 +1,9 @@
 -- The nodes that the code has, as resolved nodes; which node three words are; and how many values wait behind a node.
-use Rattle.std.specs.Prelude.{ℕ, ◌+◌, ◌-◌, ◌==◌}
+use Rattle.std.specs.Prelude.{ℕ, ◌+◌, ◌-◌, ◌==◌, Result, Ok, Err}
 use Rattle.language.specs.Syntax.{pick}
 use Rattle.generator.specs.Resolved.{Resolved, v_num, v_own, v_copy, v_get, v_bin, v_un, v_and, v_or, v_join, v_call, v_set, v_setw, v_clear, v_ex, v_out, v_if, v_else, v_fi, v_loop, v_while, v_again, v_ret, v_break, v_next, v_end}
 use Rattle.stepper.specs.declared.node.Node.{Node}
+use Rattle.stepper.specs.declared.node.UnknownNode.{UnknownNode}
 use Rattle.stepper.specs.declared.node.Node.TheVariants.{Num, Own, Copy, Get, Bin, Un, And, Or, Join, Call, Set, SetWord, Clear, Forget, Out, If, Else, Fi, Loop, While, Again, Ret, Break, Next, End}
 
 abbrev pub meant : Node → Resolved
@@ -32,13 +33,15 @@ meant Break = v_break
 meant Next = v_next
 meant End = v_end
 
-abbrev pub decoded : ℕ → ℕ → ℕ → Node
+-- the node, or the tag that none has
+abbrev pub decoded : ℕ → ℕ → ℕ → Result Node UnknownNode
 decoded t x y =
-    pick (t == 0) (Num x) (pick (t == 1) (Own x) (pick (t == 2) (Copy x) (pick (t == 3) (Get x)
-    (pick (t == 5) (Bin x) (pick (t == 6) (Un x) (pick (t == 7) And (pick (t == 8) Or (pick (t == 9) Join
-    (pick (t == 12) (Call x y) (pick (t == 15) (Set x) (pick (t == 16) (SetWord x) (pick (t == 17) Clear (pick (t == 19) Forget
-    (pick (t == 20) Out (pick (t == 21) If (pick (t == 22) Else (pick (t == 23) Fi (pick (t == 24) Loop
-    (pick (t == 25) While (pick (t == 26) Again (pick (t == 27) Ret (pick (t == 28) Break (pick (t == 29) Next End)))))))))))))))))))))))
+    pick (t == 0) (Ok (Num x)) (pick (t == 1) (Ok (Own x)) (pick (t == 2) (Ok (Copy x)) (pick (t == 3) (Ok (Get x))
+    (pick (t == 5) (Ok (Bin x)) (pick (t == 6) (Ok (Un x)) (pick (t == 7) (Ok And) (pick (t == 8) (Ok Or) (pick (t == 9) (Ok Join)
+    (pick (t == 12) (Ok (Call x y)) (pick (t == 15) (Ok (Set x)) (pick (t == 16) (Ok (SetWord x)) (pick (t == 17) (Ok Clear) (pick (t == 19) (Ok Forget)
+    (pick (t == 20) (Ok Out) (pick (t == 21) (Ok If) (pick (t == 22) (Ok Else) (pick (t == 23) (Ok Fi) (pick (t == 24) (Ok Loop)
+    (pick (t == 25) (Ok While) (pick (t == 26) (Ok Again) (pick (t == 27) (Ok Ret) (pick (t == 28) (Ok Break) (pick (t == 29) (Ok Next)
+    (pick (t == 30) (Ok End) (Err (record { 0 = t }))))))))))))))))))))))))))
 
 -- how many values the definition of a function's places counts behind a node, of which h were counted before
 abbrev pub counted : Node → ℕ → ℕ

@@ -2,45 +2,42 @@
 ghost use Rattle.std.specs.Prelude.{length};
 ghost use Rattle.stepper.specs.Bodies.{BodyDone};
 
-use crate::places::{count_behind, larger};
-use crate::point::{Body, Point};
-use crate::read::node_at;
-use crate::turn::turn;
+use crate::node::Node;
+use crate::writer::Writer;
 use rows::row::Row;
 
-// Writes the steps of so many nodes, which begin at a place of the row.
-pub fn write_body(
-    resolved: &[u32],
-    place: usize,
-    count: usize,
-    base: u32,
-    pile: &mut [u32],
-    out: &mut Row,
-) -> Body
-    ensures { BodyDone resolved.now place count base (length pile.old) out.old result.places result.steps out.new }
+// What is known of a function when its steps are written.
+#[derive(Clone, Copy, Debug, PartialEq, Eq)]
+pub struct Body {
+    // how many places it has: the highest that a value waits in
+    pub places: u32,
+    pub steps: u32,
+}
+
+// Writes the steps of a function's nodes, three words each. Words that are no node of stage 0 are read as the last node, which does no harm.
+pub fn write_body(nodes: &[[u32; 3]], base: u32, pile: &mut [u32], out: &mut Row) -> Body
+    ensures { BodyDone nodes.now base (length pile.old) out.old result.places result.steps out.new }
 {
-    let mut m = Point {
+    let mut writer = Writer {
         first: out.len,
         base,
         height: 0,
         waiting: 0,
         head: 0,
         next: 0,
+        pile,
+        out,
     };
     let mut waiting = 0;
     let mut places = base;
-    let mut here = place;
-    let mut i = 0;
-    while i < count {
-        let node = node_at(resolved, here);
-        waiting = count_behind(node, waiting);
-        places = larger(places, base.saturating_add(waiting));
-        m = turn(node, m, pile, out);
-        here = here.saturating_add(3);
-        i += 1;
+    for words in nodes {
+        let node = Node::try_from(*words).unwrap_or(Node::End);
+        waiting = node.count_behind(waiting);
+        places = places.max(base.saturating_add(waiting));
+        writer.turn(node);
     }
     Body {
         places,
-        steps: m.next,
+        steps: writer.next,
     }
 }

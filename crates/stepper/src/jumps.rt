@@ -1,81 +1,65 @@
 // Nodes that leave the pile as it is: jumps, and what a function ends with.
-ghost use Rattle.std.specs.Prelude.{ℕ, List};
 ghost use Rattle.generator.specs.Resolved.{v_else, v_loop, v_again, v_break, v_next, v_end};
 ghost use Rattle.stepper.specs.Stands.{Landed, Turned};
 
-use crate::pile::place;
-use crate::point::Point;
-use crate::write::{swap_target, write};
+use crate::writer::Writer;
 use middle::step::Step;
-use rows::row::Row;
 
-// The last jump that waits comes here.
-pub fn land(m: Point, out: &mut Row) -> Point
-    ensures { Landed m out.old result out.new }
-{
-    let before = swap_target(out, m.first, m.waiting, m.next);
-    Point {
-        waiting: before,
-        ..m
+impl Writer<'_, '_> {
+    // The last jump that waits comes here.
+    pub fn land(&mut self)
+        ensures { Landed self.old self.new }
+    {
+        self.waiting = self.swap_target(self.waiting, self.next);
     }
-}
 
-// The last jump that waits comes behind this one, which waits in its stead.
-pub fn otherwise(m: Point, out: &mut Row) -> Point
-    ensures { (ws : List ℕ) → Turned v_else m ws out.old result ws out.new }
-{
-    let before = swap_target(out, m.first, m.waiting, m.next.saturating_add(1));
-    let left = write(m, out, Step::Jump(before));
-    Point {
-        waiting: m.next,
-        ..left
+    // The last jump that waits comes behind this one, which waits in its stead.
+    pub fn otherwise(&mut self)
+        ensures { Turned v_else self.old self.new }
+    {
+        let jump = self.next;
+        let before = self.swap_target(self.waiting, self.next.saturating_add(1));
+        self.write(Step::Jump(before));
+        self.waiting = jump;
     }
-}
 
-// A jump over the step before the loop's head, which waits for the loop's end and says where the loop around begins.
-pub fn open_loop(m: Point, out: &mut Row) -> Point
-    ensures { (ws : List ℕ) → Turned v_loop m ws out.old result ws out.new }
-{
-    let head = m.next.saturating_add(2);
-    let over = write(m, out, Step::Jump(head));
-    let waits = write(over, out, Step::Jump(m.head));
-    Point { head, ..waits }
-}
-
-// Back to the loop's head; the step before that comes behind this one.
-pub fn again(m: Point, out: &mut Row) -> Point
-    ensures { (ws : List ℕ) → Turned v_again m ws out.old result ws out.new }
-{
-    let around = swap_target(
-        out,
-        m.first,
-        m.head.saturating_sub(1),
-        m.next.saturating_add(1),
-    );
-    let back = write(m, out, Step::Jump(m.head));
-    Point {
-        head: around,
-        ..back
+    // A jump over the step before the loop's head, which waits for the loop's end and says where the loop around begins.
+    pub fn open_loop(&mut self)
+        ensures { Turned v_loop self.old self.new }
+    {
+        let head = self.next.saturating_add(2);
+        self.write(Step::Jump(head));
+        self.write(Step::Jump(self.head));
+        self.head = head;
     }
-}
 
-pub fn leave(m: Point, out: &mut Row) -> Point
-    ensures { (ws : List ℕ) → Turned v_break m ws out.old result ws out.new }
-{
-    write(m, out, Step::Jump(m.head.saturating_sub(1)))
-}
+    // Back to the loop's head; the step before that comes behind this one.
+    pub fn again(&mut self)
+        ensures { Turned v_again self.old self.new }
+    {
+        let around = self.swap_target(self.head.saturating_sub(1), self.next.saturating_add(1));
+        self.write(Step::Jump(self.head));
+        self.head = around;
+    }
 
-pub fn next(m: Point, out: &mut Row) -> Point
-    ensures { (ws : List ℕ) → Turned v_next m ws out.old result ws out.new }
-{
-    write(m, out, Step::Jump(m.head))
-}
+    pub fn leave(&mut self)
+        ensures { Turned v_break self.old self.new }
+    {
+        self.write(Step::Jump(self.head.saturating_sub(1)));
+    }
 
-// A function that comes to its end gives 0.
-pub fn end(m: Point, out: &mut Row) -> Point
-    ensures { (ws : List ℕ) → Turned v_end m ws out.old result ws out.new }
-{
-    let value = place(m);
-    let zero = write(m, out, Step::Num(value, 0));
-    write(zero, out, Step::Ret(value))
+    pub fn go_on(&mut self)
+        ensures { Turned v_next self.old self.new }
+    {
+        self.write(Step::Jump(self.head));
+    }
+
+    // A function that comes to its end gives 0.
+    pub fn end(&mut self)
+        ensures { Turned v_end self.old self.new }
+    {
+        let value = self.place();
+        self.write(Step::Num(value, 0));
+        self.write(Step::Ret(value));
+    }
 }

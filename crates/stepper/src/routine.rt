@@ -3,7 +3,6 @@ ghost use Rattle.std.specs.Prelude.{length};
 ghost use Rattle.stepper.specs.Bodies.{Filled, RoutineDone};
 
 use crate::body::write_body;
-use crate::read::word_at;
 use rows::row::Row;
 
 // A word where one was written; elsewhere nothing.
@@ -15,20 +14,19 @@ fn fill(out: &mut Row, place: usize, word: u32)
     }
 }
 
-// Writes the function that stands at a place of the row; the place behind it. How many places and steps it has is known only at its end.
-pub fn write_routine(resolved: &[u32], place: usize, pile: &mut [u32], out: &mut Row) -> usize
-    ensures { RoutineDone resolved.now place (length pile.old) out.old result out.new }
+// Writes the function that stands first; what stands behind it. How many places and steps it has is known only at its end.
+pub fn write_routine<'a>(resolved: &'a [u32], pile: &mut [u32], out: &mut Row) -> &'a [u32]
+    ensures { RoutineDone resolved.now (length pile.old) out.old result.now out.new }
 {
-    let params = word_at(resolved, place);
-    let vars = word_at(resolved, place.saturating_add(2));
-    let count = word_at(resolved, place.saturating_add(4)) as usize;
-    let nodes = place.saturating_add(5);
+    let Some((&[params, _, vars, _, count], rest)) = resolved.split_first_chunk::<5>() else {
+        return &[];
+    };
+    let (nodes, _) = rest.as_chunks::<3>();
+    let count = nodes.len().min(count as usize);
     let start = out.len;
-    out.push3(params, vars, 0);
-    out.push(0);
-    let base = params.saturating_add(vars);
-    let body = write_body(resolved, nodes, count, base, pile, out);
+    out.push_all(&[params, vars, 0, 0]);
+    let body = write_body(&nodes[..count], params.saturating_add(vars), pile, out);
     fill(out, start.saturating_add(2), body.places);
     fill(out, start.saturating_add(3), body.steps);
-    nodes.saturating_add(count * 3)
+    &rest[3 * count..]
 }

@@ -1,27 +1,24 @@
-use Rattle.std.proofs.Common.{length, ◌∙◌, subst, arith}
+use Rattle.std.proofs.Common.{length, get_or, refl, ap, subst, arith, length-drop}
 use Rattle.stepper.specs.Bodies.{RoutineDone}
 use Rattle.stepper.proofs.Standing.{lent-more, lent_none}
 use Rattle.stepper.proofs.Routines.{passed_first, passed_more, passed-last, whole_is, all-good}
 use Rattle.stepper.proofs.write_steps.Goals as goal
 
 pub loop-i-init : goal.loop-i-init
-loop-i-init c = (lent_none c.args.out.now, λ gs h n good short. passed_first c.args.resolved.now gs (length c.args.pile.now) 3 c.args.out.now h good)
+loop-i-init c = record { lent = lent_none _; passed = λ gs h n good short. passed_first _ gs _ _ h good short }
 
 pub loop-i-preserved : goal.loop-i-preserved
-loop-i-preserved c = (
-  lent-more c.loop-i.invariant.0 c.write_routine-here.ensures.lent,
-  λ gs h n good short.
-      passed_more c.args.resolved.now gs (length c.args.pile.now) c.loop-i.i c.loop-i.here c.write_routine-here.result c.args.out.now c.loop-i.out c.write_routine-here.new.out
-      (c.loop-i.invariant.1 gs h n good short) (omega arith) short
-      (subst (λ (k : _). RoutineDone c.args.resolved.now c.loop-i.here k c.loop-i.out c.write_routine-here.result c.write_routine-here.new.out) c.loop-i.auto.pile c.write_routine-here.ensures),
-)
+loop-i-preserved c = record {
+  lent = lent-more c.loop-i.invariant.lent c.write_routine-rest.ensures.lent;
+  passed = λ gs h n good short. passed_more (c.loop-i.invariant.passed gs h n good short) (omega arith) (subst (λ (k : _). RoutineDone c.loop-i.rest.now k c.loop-i.out c.write_routine-rest.result.now c.write_routine-rest.new.out) c.loop-i.auto.pile c.write_routine-rest.ensures);
+}
 
 pub returns : goal.returns
 returns c = record {
   steps = λ r e a b d short.
-      let w = whole_is c.args.resolved.now r e in
-      let n = c.word_at-count.ensures ∙ w.count in
-      passed-last c.args.resolved.now r.routines (length c.args.pile.now) c.loop-i.i c.loop-i.here c.args.out.now c.loop-i.out
-      (c.loop-i.invariant.1 r.routines w.has n (all-good r.routines (length c.args.pile.now) a b d) short) (omega arith);
-  lent = c.loop-i.invariant.0;
+      let w = whole_is c.args.resolved.now c.in-Some.field-0-0.now c.in-Some.rest.now (get_or c.in-Some.field-0-0.now 2 0) r e c.in-Some.ensures.cases.0 refl c.in-Some.ensures.cases.1 in
+      let n = w.count in
+      let l = ap length c.in-Some.ensures.cases.1 in
+      passed-last (c.loop-i.invariant.passed r.routines w.has n (all-good r.routines (length c.args.pile.now) a b d) (omega (arith, length-drop 3 c.args.resolved.now))) (omega arith);
+  lent = c.loop-i.invariant.lent;
 }

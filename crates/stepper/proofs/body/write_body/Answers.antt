@@ -1,34 +1,32 @@
-use Rattle.std.proofs.Common.{sym, subst, arith}
+use Rattle.std.proofs.Common.{refl, ap, ◌∙◌, subst, sym, arith, rules}
+use Rattle.stepper.specs.Nodes.{meant}
 use Rattle.stepper.specs.Bodies.{Fit}
-use Rattle.stepper.proofs.Standing.{lent-more, lent_none}
-use Rattle.stepper.proofs.Looping.{nodes-long, reached_first, reached-more, reached_last}
+use Rattle.stepper.proofs.Standing.{kept-more}
+use Rattle.stepper.proofs.Counting.{node-is}
+use Rattle.stepper.proofs.Looping.{reached_first, reached-more, reached_last, body-done}
 use Rattle.stepper.proofs.body.write_body.Goals as goal
 
-pub loop-i-init : goal.loop-i-init
-loop-i-init c = (lent_none c.args.out.now, λ vs h n fit short. reached_first c.args.resolved.now c.args.base vs c.args.place c.args.pile.now c.args.out.now h fit.core)
+pub loop-words-init : goal.loop-words-init
+loop-words-init c = record {
+  kept = search rules;
+  reached = λ vs h fit few. reached_first c.args.nodes.now c.args.base vs _ refl refl refl refl refl refl h fit.core;
+}
 
-pub loop-i-preserved : goal.loop-i-preserved
-loop-i-preserved c = (
-  lent-more c.loop-i.invariant.0 c.turn-m.ensures.lent,
-  λ vs h n fit short.
-      let long = nodes-long vs in
-      let inside = h.inside in
-      reached-more c.args.resolved.now c.args.base vs c.loop-i.i c.loop-i.here c.loop-i.waiting c.loop-i.places c.loop-i.m c.loop-i.pile c.args.out.now c.loop-i.out
-      c.saturating_add-here.result c.count_behind-waiting.result c.larger-places.result c.turn-m.result c.turn-m.new.pile c.turn-m.new.out
-      (c.loop-i.invariant.1 vs h n fit short) (omega arith) (subst (Fit c.args.base vs) (sym c.loop-i.auto.pile) fit) (omega arith) short
+pub loop-words-preserved : goal.loop-words-preserved
+loop-words-preserved c = record {
+  kept = kept-more c.loop-words.invariant.kept c.turn.ensures.kept;
+  reached = λ vs h fit few.
+      reached-more _ (c.loop-words.invariant.reached vs h fit few) c.loop-words-test.true h (subst (Fit c.args.base vs) (sym c.loop-words.invariant.kept.long) fit) few
       (record {
-        node = c.node_at-node.result;
-        read = c.node_at-node.ensures;
+        node = c.unwrap_or-node.result;
+        read = λ b v k e. ap meant c.unwrap_or-node.ensures ∙ node-is b v _ _ k e c.try_from.ensures;
         counted = c.count_behind-waiting.ensures;
         highest = omega arith;
-        turned = c.turn-m.ensures;
-        on = c.saturating_add-here.ensures;
-        long = c.turn-m.auto.pile;
-      }),
-)
+        turned = c.turn.ensures;
+      });
+}
 
 pub returns : goal.returns
-returns c = record {
-  lent = c.loop-i.invariant.0;
-  body = λ vs h n fit short. reached_last c.args.resolved.now c.args.base vs c.loop-i.i c.loop-i.here c.loop-i.waiting c.loop-i.places c.loop-i.m c.loop-i.pile c.args.out.now c.loop-i.out (c.loop-i.invariant.1 vs h n fit short) (omega arith) c.loop-i.invariant.0;
-}
+returns c =
+    let k = c.loop-words.invariant.kept.out in
+    body-done c.loop-words.writer (search rules) c.loop-words.invariant.kept.lent (λ vs h fit few. reached_last (c.loop-words.invariant.reached vs h fit few) c.loop-words-test.false h c.loop-words.invariant.kept.lent)
