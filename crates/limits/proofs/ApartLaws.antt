@@ -1,10 +1,10 @@
 -- Names that differ, item by item.
-use Rattle.std.proofs.Common.{◌≡◌, ℕ, Bool, not, ◌&&◌, ◌||◌, List, [], ◌∷◌, ◌++◌, get_or, sym, refl, ap, ◌∙◌}
+use Rattle.std.proofs.Common.{◌≡◌, Bool, not, ◌&&◌, ◌||◌, List, [], ◌∷◌, ◌++◌, sym, refl, ap, ◌∙◌}
 use Rattle.language.specs.Syntax.{Name, same, listed, Item, i_word, i_arr, i_data, i_table, i_fn, i_use}
 use Rattle.language.specs.Checks.{once, names_in}
-use Rattle.rows.specs.Has.{Has}
-use Rattle.rows.specs.Trees.{name_of, item_row}
-use Rattle.rows.proofs.Having.{has_word}
+use Rattle.rows.specs.declared.kind.ItemKind.TheVariants.{Use}
+use Rattle.rows.specs.Kinds.{kind_of_item}
+use Rattle.rows.specs.Trees.{name_of}
 use Rattle.limits.specs.Apart.{item_names, apart}
 use Rattle.limits.proofs.Flags.{and_assoc, and-true, or_assoc, or-false}
 
@@ -31,16 +31,16 @@ pub once_more : (i : Item) (is : List Item) → once (names_in (i ∷ is)) ≡ (
 once_more i is = ap once (names_more i is) ∙ once-append (item_names i) (names_in is)
 
 -- an item that uses nothing gives one name, its own
-own_name : {w : List ℕ} {a r : ℕ} → r ≡ get_or w a 0 → (r ≡ 5 → ⊥) → (i : Item) → Has w a (item_row i) → item_names i ≡ name_of i ∷ []
-own_name rd n (i_word x) h = refl
-own_name rd n (i_arr b) h = refl
-own_name rd n (i_data d x ns) h = refl
-own_name rd n (i_table x fs) h = refl
-own_name rd n (i_fn g) h = refl
-own_name rd n (i_use y xs) h = absurd (n (rd ∙ has_word h))
+own_name : (i : Item) → (kind_of_item i ≡ Use → ⊥) → item_names i ≡ name_of i ∷ []
+own_name (i_word x) n = refl
+own_name (i_arr b) n = refl
+own_name (i_data d x ns) n = refl
+own_name (i_table x fs) n = refl
+own_name (i_fn g) n = refl
+own_name (i_use y xs) n = absurd (n refl)
 
-pub listed-own : {w : List ℕ} {a r : ℕ} → r ≡ get_or w a 0 → (r ≡ 5 → ⊥) → (i : Item) → Has w a (item_row i) → (x : Name) → same (name_of i) x ≡ listed x (item_names i)
-listed-own rd n i h x = sym (ap (listed x) (own_name rd n i h) ∙ or-false (same (name_of i) x))
+pub listed-own : (i : Item) → (kind_of_item i ≡ Use → ⊥) → (x : Name) → same (name_of i) x ≡ listed x (item_names i)
+listed-own i n x = sym (ap (listed x) (own_name i n) ∙ or-false (same (name_of i) x))
 
-pub apart-own : {w : List ℕ} {a r : ℕ} → r ≡ get_or w a 0 → (r ≡ 5 → ⊥) → (i : Item) → Has w a (item_row i) → (ys : List Name) → not (listed (name_of i) ys) ≡ apart (item_names i) ys
-apart-own rd n i h ys = sym (ap (λ (l : List Name). apart l ys) (own_name rd n i h) ∙ and-true (not (listed (name_of i) ys)))
+pub apart-own : (i : Item) → (kind_of_item i ≡ Use → ⊥) → (ys : List Name) → not (listed (name_of i) ys) ≡ apart (item_names i) ys
+apart-own i n ys = sym (ap (λ (l : List Name). apart l ys) (own_name i n) ∙ and-true (not (listed (name_of i) ys)))

@@ -1,5 +1,5 @@
 -- Flags joined by and, by or.
-use Rattle.std.proofs.Common.{◌≡◌, Bool, true, false, ◌&&◌, ◌||◌, refl}
+use Rattle.std.proofs.Common.{◌≡◌, Bool, true, false, ◌&&◌, ◌||◌, ◌⊎◌, inl, inr, sym, refl, ap, ◌∙◌}
 
 pub and_assoc : (a b c : Bool) → ((a && b) && c) ≡ (a && (b && c))
 and_assoc true b c = refl
@@ -20,3 +20,8 @@ or_assoc false b c = refl
 pub or-false : (a : Bool) → (a || false) ≡ a
 or-false true = refl
 or-false false = refl
+
+-- two tests, the second made only if the first holds
+pub joined : {v f : Bool} (a b : Bool) → f ≡ a → ((f ≡ true) × (v ≡ b)) ⊎ ((f ≡ false) × (v ≡ false)) → v ≡ (a && b)
+joined a b e (inl k) = k.1 ∙ ap (λ t. t && b) (sym k.0 ∙ e)
+joined a b e (inr k) = k.1 ∙ ap (λ t. t && b) (sym k.0 ∙ e)

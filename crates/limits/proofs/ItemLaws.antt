@@ -1,12 +1,11 @@
 -- The limits of items, part by part.
-use Rattle.std.proofs.Common.{◌≡◌, ℕ, Bool, true, ◌&&◌, leb, List, [], ◌∷◌, ◌++◌, get_or, refl, ap, ◌∙◌, ap₂}
-use Rattle.language.specs.Syntax.{Name, Param, Arr, Fn, Item, i_word, i_arr, i_data, i_table, i_fn, i_use}
+use Rattle.std.proofs.Common.{◌≡◌, ℕ, Bool, true, false, ◌&&◌, ◌⊎◌, inl, inr, leb, List, [], ◌∷◌, ◌++◌, refl, ap, ◌∙◌, ap₂, arith}
+use Rattle.language.specs.Syntax.{pick, Name, Param, Arr, Fn}
+use Rattle.language.specs.Words.{all, bit}
 use Rattle.language.specs.Checks.{sizes, param_names, arr_names}
-use Rattle.rows.specs.Has.{Has}
-use Rattle.rows.specs.Trees.{Local, map_list, of_param, of_var, of_array, locals, item_row}
-use Rattle.rows.proofs.Having.{has_word}
+use Rattle.rows.specs.Trees.{Local, map_list, of_param, of_var, of_array, locals}
 use Rattle.limits.proofs.Flags.{and_assoc}
-use Rattle.limits.specs.Within.{local_names, local_sizes, few, item_within}
+use Rattle.limits.specs.Within.{local_names, local_sizes, few}
 
 pub sizes_local : (as₁ : List Arr) → local_sizes (map_list of_array as₁) ≡ sizes 4096 as₁
 sizes_local [] = refl
@@ -29,14 +28,12 @@ names_local g =
     let us = map_list of_array g.arrs in
     names-params g.params (map_list of_var g.vars ++ us) ∙ ap (λ (l : List Name). param_names g.params ++ l) (names-vars g.vars us ∙ ap (λ (l : List Name). g.vars ++ l) (names-arrays g.arrs))
 
+-- what the values of an array are below, words or bytes
+pub limit_is : {v l : ℕ} (wide : Bool) → v ≡ bit wide → ((v ≡ 1) × (l ≡ all)) ⊎ ((v ≡ 1 → ⊥) × (l ≡ 256)) → l ≡ pick wide all 256
+limit_is true e (inl k) = k.1
+limit_is true e (inr k) = absurd (k.0 e)
+limit_is false e (inl k) = absurd (omega (arith, e, k.0))
+limit_is false e (inr k) = k.1
+
 pub few-same : {a b c x y z : ℕ} → a ≡ x → b ≡ y → c ≡ z → few a b c ≡ few x y z
 few-same e f g = ap₂ (λ (s t : Bool). s && t) (ap (λ (n : ℕ). leb n 8) e) (ap₂ (λ (s t : Bool). s && t) (ap (λ (n : ℕ). leb n 64) f) (ap (λ (n : ℕ). leb n 16) g))
-
--- an item of any other kind has no limits
-pub within-others : {w : List ℕ} {a r : ℕ} → r ≡ get_or w a 0 → (r ≡ 1 → ⊥) → (r ≡ 2 → ⊥) → (r ≡ 4 → ⊥) → (i : Item) → Has w a (item_row i) → true ≡ item_within i
-within-others rd n1 n2 n4 (i_word x) h = refl
-within-others rd n1 n2 n4 (i_arr b) h = absurd (n1 (rd ∙ has_word h))
-within-others rd n1 n2 n4 (i_data d x ns) h = absurd (n2 (rd ∙ has_word h))
-within-others rd n1 n2 n4 (i_table x fs) h = refl
-within-others rd n1 n2 n4 (i_fn g) h = absurd (n4 (rd ∙ has_word h))
-within-others rd n1 n2 n4 (i_use y xs) h = refl

@@ -1,7 +1,7 @@
 -- Laws for the proofs of the code.
+pub mod EntryLaws
+pub mod BodyLaws
 pub mod Flags
-pub mod Walk
-pub mod NodeWalk
 pub mod Places
 pub mod StageLaws
 pub mod TotalLaws

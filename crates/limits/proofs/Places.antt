@@ -1,30 +1,21 @@
 -- Where the parts of a program's row stand: files, items, functions and their names.
-use Rattle.std.proofs.Common.{◌≡◌, ℕ, suc, ◌+◌, ◌<◌, min, Bool, true, false, eqb, List, [], ◌∷◌, ◌++◌, length, get_or, drop, sym, refl, ap, ◌∙◌, append_assoc, append-nil, arith, length-append}
+use Rattle.std.proofs.Common.{◌≡◌, ℕ, suc, ◌+◌, ◌<◌, min, Bool, true, false, eqb, List, [], ◌∷◌, ◌++◌, length, sym, refl, ap, ◌∙◌, subst, append_assoc, arith, length-append}
 use Rattle.language.specs.Syntax.{Name, Arr, Fn, Item, i_word, i_arr, i_data, i_table, i_fn, i_use, File, Prog}
 use Rattle.language.specs.Words.{bit}
+use Rattle.language.specs.Checks.{file_names}
 use Rattle.rows.specs.Has.{Has, named}
 use Rattle.rows.specs.Nodes.{num_row, nodes_row, nodes_b, body_row}
-use Rattle.rows.specs.Trees.{Local, list_row, map_list, of_param, of_var, of_array, locals, local_row, fn_row, item_no, name_of, tail_row, rest_row, item_row, file_row, prog_row}
-use Rattle.rows.proofs.Having.{has_word, has-next, has_left, has_right, has_to, has_as}
+use Rattle.rows.specs.Trees.{Local, list_row, map_list, of_param, of_var, of_array, locals, local_row, fn_row, name_of, tail_row, rest_row, item_row, file_row}
+use Rattle.rows.proofs.Having.{has-next, has_left, has_right, has_to, has_as}
 use Rattle.rows.proofs.TreeNodes.{bodies-nodes}
-use Rattle.limits.specs.declared.head.FnHead.{FnHead}
-use Rattle.limits.specs.Head.{Heads}
-use Rattle.limits.proofs.Walk.{Rest, rest-first}
-
--- an item's length, in one writing
-pub passes : {w : List ℕ} {a b : ℕ} → ((i : Item) → Has w a (item_row i) → b ≡ a + (2 + length (rest_row i))) → (i : Item) → Has w a (item_row i) → b ≡ a + length (item_row i)
-passes to i h = omega (arith, to i h)
-
--- the files of a program
-pub files_are : {w : List ℕ} {n : ℕ} (p : Prog) → w ≡ prog_row p → n ≡ get_or w 0 0 → n ≡ length p
-files_are p e r = r ∙ ap (λ (l : List ℕ). get_or l 0 0) e
-
-pub first-files : {w : List ℕ} {P : Prog → Type 0} {n : ℕ} (p : Prog) → w ≡ prog_row p → n ≡ get_or w 0 0 → P p → Rest w file_row P 1 n
-first-files p e r h = rest-first p (record { rest = []; is = ap (drop 1) e ∙ sym (append-nil (list_row file_row p)); inside = omega (arith, ap length e) }) (sym (files_are p e r)) h
+use Rattle.rows.specs.declared.kind.ItemKind.{ItemKind}
+use Rattle.rows.specs.declared.kind.ItemKind.TheVariants.{Word, Array, Data, Table, Function, Use}
+use Rattle.rows.specs.Kinds.{kind_of_item}
+use Rattle.limits.specs.Entries.{NamesAt}
 
 -- the items of a file, behind its name
 module _ {w : List ℕ} {file head : ℕ} (small : length w < 18446744073709551616) (to : (x : Name) → Has w file (named x) → head ≡ file + (length x + 1)) (f : File) (h : Has w file (file_row f)) where
-  at_head : Has w head (length f.items ∷ list_row item_row f.items)
+  pub at_head : Has w head (length f.items ∷ list_row item_row f.items)
   at_head =
       let b = length f.items ∷ list_row item_row f.items in
       has_to (omega (arith, to f.name (has_left (named f.name) b h))) (has_right (named f.name) b h)
@@ -34,16 +25,9 @@ module _ {w : List ℕ} {file head : ℕ} (small : length w < 184467440737095516
       let b = length f.items ∷ list_row item_row f.items in
       omega (arith, to f.name (has_left (named f.name) b h), length-append (named f.name) b, at_head.inside)
 
-  pub first_items : {P : List Item → Type 0} {n here : ℕ} → n ≡ get_or w head 0 → here ≡ min (head + 1) 18446744073709551615 → P f.items → Rest w item_row P here n
-  first_items r e p = rest-first f.items (has_to (omega (arith, at_head.inside)) (has-next at_head)) (sym (r ∙ has_word at_head)) p
-
 -- a file's name
 pub file-name : {w : List ℕ} {a : ℕ} (f : File) → Has w a (file_row f) → Has w a (named f.name)
 file-name f h = has_left (named f.name) (length f.items ∷ list_row item_row f.items) h
-
--- a name, in one writing
-pub passes_name : {w : List ℕ} {a b : ℕ} → ((x : Name) → Has w a (named x) → b ≡ a + (length x + 1)) → (x : Name) → Has w a (named x) → b ≡ a + length (named x)
-passes_name to x h = omega (arith, to x h)
 
 -- an item's name
 module _ {w : List ℕ} {item at_name : ℕ} (small : length w < 18446744073709551616) (sum : at_name ≡ min (item + 2) 18446744073709551615) (i : Item) (h : Has w item (item_row i)) where
@@ -59,10 +43,6 @@ module _ {w : List ℕ} {item at_name tail : ℕ} (small : length w < 1844674407
   pub item_tail : Has w tail (tail_row i)
   item_tail = has_to (omega (arith, to (name_of i) (item_name small sum i h))) (has_right (named (name_of i)) (tail_row i) (item_rest small sum i h))
 
-  pub tail_ends : {stop : ℕ} → stop ≡ item + (2 + length (rest_row i)) → tail + length (tail_row i) ≡ stop
-  unfolding rest_row
-  tail_ends e = omega (arith, to (name_of i) (item_name small sum i h), length-append (named (name_of i)) (tail_row i), (has-next (has-next h)).inside)
-
 -- the name of a function's name, behind its kind and size
 pub local_name : {w : List ℕ} {a s : ℕ} → length w < 18446744073709551616 → s ≡ min (a + 3) 18446744073709551615 → (l : Local) → Has w a (local_row l) → Has w s (named l.name)
 local_name small sum l h = let k = has-next (has-next (has-next h)) in has_to (omega (arith, k.inside)) k
@@ -75,7 +55,7 @@ long-map : {A C : Type 0} (f : A → C) (xs : List A) → length (map_list f xs)
 long-map f [] = refl
 long-map f (x ∷ xs) = ap suc (long-map f xs)
 
-long-locals : (g : Fn) → length (locals g) ≡ length g.params + (length g.vars + length g.arrs)
+pub long-locals : (g : Fn) → length (locals g) ≡ length g.params + (length g.vars + length g.arrs)
 long-locals g =
     let vs = map_list of_array g.arrs in
     let us = map_list of_var g.vars in
@@ -85,67 +65,81 @@ list_row-append : {A : Type 0} (row : A → List ℕ) (xs ys : List A) → list_
 list_row-append row [] ys = refl
 list_row-append row (x ∷ xs) ys = ap (λ (l : List ℕ). row x ++ l) (list_row-append row xs ys) ∙ sym (append_assoc (row x) (list_row row xs) (list_row row ys))
 
--- a function: its names, the own arrays behind the parameters and variables, the body
-module _ {w : List ℕ} {place : ℕ} {r : FnHead} (g : Fn) (h : Heads w place g r) where
-  pub names_are : length (locals g) ≡ (r.params + r.vars) + r.arrays
-  names_are = omega (arith, long-locals g)
+-- a function: its names, its own arrays behind the parameters and variables, its body
+module _ {w : List ℕ} {place : ℕ} (g : Fn) (h : Has w place (fn_row g)) where
+  pub names_and_body : Has w (place + 3) (list_row local_row (locals g) ++ body_row g.body)
+  names_and_body = let k = has-next (has-next (has-next h)) in has_to (omega arith) k
 
-  pub names_at : Has w r.names (list_row local_row (locals g))
-  names_at = has_left (list_row local_row (locals g)) (body_row g.body) h.here
+  pub locals_at : Has w (place + 3) (list_row local_row (locals g))
+  locals_at = has_left (list_row local_row (locals g)) (body_row g.body) names_and_body
 
-  pub body_at : {body : ℕ} → body ≡ r.names + length (list_row local_row (locals g)) → Has w body (nodes_row (nodes_b g.body))
-  body_at e = has_as (bodies-nodes g) (has_to (sym e) (has_right (list_row local_row (locals g)) (body_row g.body) h.here))
-
-  pub body_ends : {body stop : ℕ} → body ≡ r.names + length (list_row local_row (locals g)) → place + length (fn_row g) ≡ stop → body + length (nodes_row (nodes_b g.body)) ≡ stop
-  body_ends e k = omega (arith, ap length (bodies-nodes g), length-append (list_row local_row (locals g)) (body_row g.body))
-
-  pub long_arrays : length (map_list of_array g.arrs) ≡ r.arrays
-  long_arrays = long-map of_array g.arrs ∙ sym h.arrays
-
-  pub arrays_at : {first : ℕ} → ((ls : List Local) → Has w r.names (list_row local_row ls) → length ls ≡ r.params + r.vars → first ≡ r.names + length (list_row local_row ls)) → Has w first (list_row local_row (map_list of_array g.arrs))
-  arrays_at {first} to =
+  pub words_at : Has w (place + 3) (list_row local_row (map_list of_param g.params ++ map_list of_var g.vars))
+  words_at =
       let ps = map_list of_param g.params in
       let vs = map_list of_var g.vars in
       let us = map_list of_array g.arrs in
-      let k = has_as (ap (list_row local_row) (sym (append_assoc ps vs us)) ∙ list_row-append local_row (ps ++ vs) us) names_at in
-      let l : length (ps ++ vs) ≡ r.params + r.vars = omega (arith, length-append ps vs, long-map of_param g.params, long-map of_var g.vars) in
-      has_to (sym (to (ps ++ vs) (has_left (list_row local_row (ps ++ vs)) (list_row local_row us) k) l)) (has_right (list_row local_row (ps ++ vs)) (list_row local_row us) k)
+      has_left (list_row local_row (ps ++ vs)) (list_row local_row us) (has_as (ap (list_row local_row) (sym (append_assoc ps vs us)) ∙ list_row-append local_row (ps ++ vs) us) locals_at)
 
--- an item of a kind, told by its number
-only : {w : List ℕ} {a r n : ℕ} (i : Item) → Has w a (item_row i) → r ≡ get_or w a 0 → r ≡ n → n ≡ item_no i
-only i h rd e = sym e ∙ rd ∙ has_word h
+  pub params_at : Has w (place + 3) (list_row local_row (map_list of_param g.params))
+  params_at =
+      let ps = map_list of_param g.params in
+      let vs = map_list of_var g.vars in
+      has_left (list_row local_row ps) (list_row local_row vs) (has_as (list_row-append local_row ps vs) words_at)
 
-pub only-fn : {w : List ℕ} {a r : ℕ} (C : Item → Type 0) → r ≡ get_or w a 0 → r ≡ 4 → ((g : Fn) → Has w a (item_row (i_fn g)) → C (i_fn g)) → (i : Item) → Has w a (item_row i) → C i
-only-fn C rd e it (i_word x) h = absurd (omega (arith, only (i_word x) h rd e))
-only-fn C rd e it (i_arr b) h = absurd (omega (arith, only (i_arr b) h rd e))
-only-fn C rd e it (i_data b x ns) h = absurd (omega (arith, only (i_data b x ns) h rd e))
-only-fn C rd e it (i_table x fs) h = absurd (omega (arith, only (i_table x fs) h rd e))
-only-fn C rd e it (i_fn g) h = it g h
-only-fn C rd e it (i_use y xs) h = absurd (omega (arith, only (i_use y xs) h rd e))
+pub long_params : (g : Fn) → length (map_list of_param g.params) ≡ length g.params
+long_params g = long-map of_param g.params
 
-pub only-array : {w : List ℕ} {a r : ℕ} (C : Item → Type 0) → r ≡ get_or w a 0 → r ≡ 1 → ((b : Arr) → Has w a (item_row (i_arr b)) → C (i_arr b)) → (i : Item) → Has w a (item_row i) → C i
-only-array C rd e it (i_word x) h = absurd (omega (arith, only (i_word x) h rd e))
-only-array C rd e it (i_arr b) h = it b h
-only-array C rd e it (i_data b x ns) h = absurd (omega (arith, only (i_data b x ns) h rd e))
-only-array C rd e it (i_table x fs) h = absurd (omega (arith, only (i_table x fs) h rd e))
-only-array C rd e it (i_fn g) h = absurd (omega (arith, only (i_fn g) h rd e))
-only-array C rd e it (i_use y xs) h = absurd (omega (arith, only (i_use y xs) h rd e))
+pub long_words : (g : Fn) → length (map_list of_param g.params ++ map_list of_var g.vars) ≡ length g.params + length g.vars
+long_words g = omega (arith, length-append (map_list of_param g.params) (map_list of_var g.vars), long-map of_param g.params, long-map of_var g.vars)
 
-pub only_data : {w : List ℕ} {a r : ℕ} (C : Item → Type 0) → r ≡ get_or w a 0 → r ≡ 2 → ((b : Bool) (x : Name) (ns : List ℕ) → Has w a (item_row (i_data b x ns)) → C (i_data b x ns)) → (i : Item) → Has w a (item_row i) → C i
-only_data C rd e it (i_word x) h = absurd (omega (arith, only (i_word x) h rd e))
-only_data C rd e it (i_arr b) h = absurd (omega (arith, only (i_arr b) h rd e))
-only_data C rd e it (i_data b x ns) h = it b x ns h
-only_data C rd e it (i_table x fs) h = absurd (omega (arith, only (i_table x fs) h rd e))
-only_data C rd e it (i_fn g) h = absurd (omega (arith, only (i_fn g) h rd e))
-only_data C rd e it (i_use y xs) h = absurd (omega (arith, only (i_use y xs) h rd e))
+pub arrays_at : {w : List ℕ} {a b : ℕ} (g : Fn) → Has w a (list_row local_row (locals g)) → b ≡ a + length (list_row local_row (map_list of_param g.params ++ map_list of_var g.vars)) → Has w b (list_row local_row (map_list of_array g.arrs))
+arrays_at g h e =
+    let ps = map_list of_param g.params in
+    let vs = map_list of_var g.vars in
+    let us = map_list of_array g.arrs in
+    has_to (sym e) (has_right (list_row local_row (ps ++ vs)) (list_row local_row us) (has_as (ap (list_row local_row) (sym (append_assoc ps vs us)) ∙ list_row-append local_row (ps ++ vs) us) h))
 
-pub only_use : {w : List ℕ} {a r : ℕ} (C : Item → Type 0) → r ≡ get_or w a 0 → r ≡ 5 → ((y : Name) (xs : List Name) → Has w a (item_row (i_use y xs)) → C (i_use y xs)) → (i : Item) → Has w a (item_row i) → C i
-only_use C rd e it (i_word x) h = absurd (omega (arith, only (i_word x) h rd e))
-only_use C rd e it (i_arr b) h = absurd (omega (arith, only (i_arr b) h rd e))
-only_use C rd e it (i_data b x ns) h = absurd (omega (arith, only (i_data b x ns) h rd e))
-only_use C rd e it (i_table x fs) h = absurd (omega (arith, only (i_table x fs) h rd e))
-only_use C rd e it (i_fn g) h = absurd (omega (arith, only (i_fn g) h rd e))
-only_use C rd e it (i_use y xs) h = it y xs h
+pub long_arrays : (g : Fn) → length (map_list of_array g.arrs) ≡ length g.arrs
+long_arrays g = long-map of_array g.arrs
+
+pub body_at : {w : List ℕ} {a b : ℕ} (g : Fn) → Has w a (list_row local_row (locals g) ++ body_row g.body) → b ≡ a + length (list_row local_row (locals g)) → Has w b (nodes_row (nodes_b g.body))
+body_at g h e = has_as (bodies-nodes g) (has_to (sym e) (has_right (list_row local_row (locals g)) (body_row g.body) h))
+
+-- what is to be shown of an item of a kind, which stands at a place
+abbrev pub OnKind : List ℕ → ℕ → (Item → Type 0) → ItemKind → Type 0
+OnKind w a C Word = (x : Name) → Has w a (item_row (i_word x)) → C (i_word x)
+OnKind w a C Array = (b : Arr) → Has w a (item_row (i_arr b)) → C (i_arr b)
+OnKind w a C Data = (b : Bool) (x : Name) (ns : List ℕ) → Has w a (item_row (i_data b x ns)) → C (i_data b x ns)
+OnKind w a C Table = (x : Name) (fs : List Name) → Has w a (item_row (i_table x fs)) → C (i_table x fs)
+OnKind w a C Function = (g : Fn) → Has w a (item_row (i_fn g)) → C (i_fn g)
+OnKind w a C Use = (y : Name) (xs : List Name) → Has w a (item_row (i_use y xs)) → C (i_use y xs)
+
+-- an item, told by its kind
+pub by_kind : {w : List ℕ} {a : ℕ} {kind : ItemKind} (of : ItemKind) (C : Item → Type 0) → ((i : Item) → Has w a (item_row i) → kind ≡ kind_of_item i) → kind ≡ of → OnKind w a C of → (i : Item) → Has w a (item_row i) → C i
+by_kind {w} {a} of C is e it (i_word x) h = subst (OnKind w a C) (sym e ∙ is (i_word x) h) it x h
+by_kind {w} {a} of C is e it (i_arr b) h = subst (OnKind w a C) (sym e ∙ is (i_arr b) h) it b h
+by_kind {w} {a} of C is e it (i_data b x ns) h = subst (OnKind w a C) (sym e ∙ is (i_data b x ns) h) it b x ns h
+by_kind {w} {a} of C is e it (i_table x fs) h = subst (OnKind w a C) (sym e ∙ is (i_table x fs) h) it x fs h
+by_kind {w} {a} of C is e it (i_fn g) h = subst (OnKind w a C) (sym e ∙ is (i_fn g) h) it g h
+by_kind {w} {a} of C is e it (i_use y xs) h = subst (OnKind w a C) (sym e ∙ is (i_use y xs) h) it y xs h
+
+-- where the names of entries stand
+pub names_here : {w : List ℕ} → NamesAt named (λ x. x) w 0
+names_here x i h = has_to (omega arith) h
+
+pub locals_here : {w : List ℕ} → NamesAt local_row (λ (l : Local). l.name) w 3
+locals_here l i h = has_to (omega arith) (has-next (has-next (has-next h)))
+
+pub files_here : {w : List ℕ} → NamesAt file_row (λ (f : File). f.name) w 0
+files_here f i h = has_to (omega arith) (file-name f h)
+
+pub map_same : (xs : List Name) → map_list (λ x. x) xs ≡ xs
+map_same [] = refl
+map_same (x ∷ xs) = ap (λ (l : List Name). x ∷ l) (map_same xs)
+
+pub map_files : (fs : Prog) → map_list (λ (f : File). f.name) fs ≡ file_names fs
+map_files [] = refl
+map_files (f ∷ fs) = ap (λ (l : List Name). f.name ∷ l) (map_files fs)
 
 -- a flag, told by its number
 pub flag : {v : ℕ} (b : Bool) → v ≡ bit b → eqb v 1 ≡ b

@@ -1,12 +1,9 @@
 -- The stage of a body is that of its nodes, and the stage of a function's names that of its parameters and arrays.
-use Rattle.std.proofs.Common.{◌≡◌, ℕ, ◌<◌, ◌≤◌, max, Bool, true, false, eqb, List, [], ◌∷◌, ◌++◌, length, get_or, refl, ap, ◌∙◌, ap₂, arith}
-use Rattle.language.specs.Syntax.{pick, Name, Expr, num, var, bin, un, and1, or1, idx, len, call, by_table, input, Exprs, no, and_then, Stmt, set1, store1, ex1, out1, if1, while1, ret1, break1, next1, Block, end, seq1, Kind, k_word, k_arr, Param, Arr, Fn, Item, i_word, i_arr, i_data, i_table, i_fn, i_use, Prog, stage_e, stage_es, stage_s, stage_b, stage_k, stage_ps, stage_as, stage_i, stage_fs, stage}
-use Rattle.rows.specs.Has.{Has}
+use Rattle.std.proofs.Common.{◌≡◌, ◌<◌, ◌≤◌, max, Bool, true, false, List, [], ◌∷◌, ◌++◌, length, refl, ap₂, arith}
+use Rattle.language.specs.Syntax.{pick, Name, Expr, num, var, bin, un, and1, or1, idx, len, call, by_table, input, Exprs, no, and_then, Stmt, set1, store1, ex1, out1, if1, while1, ret1, break1, next1, Block, end, seq1, k_arr, Param, Arr, Fn, Prog, stage_e, stage_es, stage_s, stage_b, stage_k, stage_ps, stage_as, stage_fs, stage}
 use Rattle.rows.specs.Nodes.{Node, n_bin, n_and, n_or, n_join, n_un, n_idx, n_call, n_by, n_set, n_store, n_ex, n_out, n_if, n_else, n_fi, n_while, n_again, n_ret, n_end, count, nodes_e, nodes_es, nodes_s, nodes_bs, nodes_b}
-use Rattle.rows.specs.Trees.{Local, kind_no, map_list, of_param, of_var, of_array, locals, item_row, tail_row}
-use Rattle.rows.proofs.Having.{has_word}
-use Rattle.limits.specs.Stages.{nodes_stage, kind_stage, locals_stage, top_stage}
-use Rattle.limits.proofs.Places.{flag}
+use Rattle.rows.specs.Trees.{Local, map_list, of_param, of_var, of_array, locals}
+use Rattle.limits.specs.Stages.{nodes_stage, locals_stage}
 
 mutual
   stage-e : (a : Bool) (e : Expr) (ts : List Node) → nodes_stage (nodes_e a e ts) ≡ max (stage_e e) (nodes_stage ts)
@@ -46,11 +43,6 @@ mutual
 pub stage_body : (b : Block) → nodes_stage (nodes_b b) ≡ stage_b b
 stage_body b = omega (arith, stage_bs b (n_end ∷ []))
 
-pub stage-kind : (k : Kind) → kind_stage (kind_no k) ≡ stage_k k
-stage-kind k_word = refl
-stage-kind (k_arr true) = refl
-stage-kind (k_arr false) = refl
-
 stage-arrays : (as₁ : List Arr) → locals_stage (map_list of_array as₁) ≡ stage_as as₁
 stage-arrays [] = refl
 stage-arrays (a ∷ as₁) = ap₂ max (one a.wide) (stage-arrays as₁)
@@ -71,15 +63,6 @@ pub stage-locals : (g : Fn) → locals_stage (locals g) ≡ max (stage_ps g.para
 stage-locals g =
     let vs = map_list of_array g.arrs in
     omega (arith, stage-params g.params (map_list of_var g.vars ++ vs), stage-vars g.vars vs, stage-arrays g.arrs)
-
--- what stands at the top and is no function, told by its kind's number and what follows its name
-pub stage-top : {w : List ℕ} {a b r v : ℕ} → r ≡ get_or w a 0 → (r ≡ 4 → ⊥) → v ≡ get_or w b 0 → (i : Item) → Has w a (item_row i) → Has w b (tail_row i) → top_stage r (eqb v 1) ≡ stage_i i
-stage-top {v = v} rd n vd (i_word x) h k = ap (λ (m : ℕ). top_stage m (eqb v 1)) (rd ∙ has_word h)
-stage-top {v = v} rd n vd (i_arr e) h k = ap₂ top_stage (rd ∙ has_word h) (flag e.wide (vd ∙ has_word k))
-stage-top {v = v} rd n vd (i_data e x ns) h k = ap₂ top_stage (rd ∙ has_word h) (flag e (vd ∙ has_word k))
-stage-top {v = v} rd n vd (i_table x fs) h k = ap (λ (m : ℕ). top_stage m (eqb v 1)) (rd ∙ has_word h)
-stage-top {v = v} rd n vd (i_fn g) h k = absurd (n (rd ∙ has_word h))
-stage-top {v = v} rd n vd (i_use y xs) h k = ap (λ (m : ℕ). top_stage m (eqb v 1)) (rd ∙ has_word h)
 
 pub stage-one : (p : Prog) → length p ≤ 1 → stage p ≡ stage_fs p
 stage-one [] l = refl

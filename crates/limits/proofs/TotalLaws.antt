@@ -1,11 +1,8 @@
 -- The elements of arrays, item by item.
-use Rattle.std.proofs.Common.{◌≡◌, ℕ, ◌+◌, min, Bool, true, false, leb, List, ◌∷◌, get_or, sym, refl, ◌∙◌, arith, le-leb, leb-false, leb-true}
+use Rattle.std.proofs.Common.{◌≡◌, ℕ, ◌+◌, min, Bool, true, false, leb, List, ◌∷◌, sym, refl, ◌∙◌, arith, le-leb, leb-false, leb-true}
 use borrow.Author.Tests.{lt-leb}
 use Rattle.language.specs.Syntax.{Item, i_word, i_arr, i_data, i_table, i_fn, i_use}
 use Rattle.language.specs.Checks.{total}
-use Rattle.rows.specs.Has.{Has}
-use Rattle.rows.specs.Trees.{item_row}
-use Rattle.rows.proofs.Having.{has_word}
 use Rattle.limits.specs.Totals.{elements}
 
 pub total-more : (i : Item) (is : List Item) → total (i ∷ is) ≡ elements i + total is
@@ -15,15 +12,6 @@ total-more (i_data w x ns) is = refl
 total-more (i_table x fs) is = omega arith
 total-more (i_fn g) is = omega arith
 total-more (i_use y xs) is = omega arith
-
--- an item of any other kind adds nothing
-pub elements-none : {w : List ℕ} {a r : ℕ} → r ≡ get_or w a 0 → (r ≡ 1 → ⊥) → (r ≡ 2 → ⊥) → (i : Item) → Has w a (item_row i) → 0 ≡ elements i
-elements-none rd n1 n2 (i_word x) h = refl
-elements-none rd n1 n2 (i_arr b) h = absurd (n1 (rd ∙ has_word h))
-elements-none rd n1 n2 (i_data d x ns) h = absurd (n2 (rd ∙ has_word h))
-elements-none rd n1 n2 (i_table x fs) h = refl
-elements-none rd n1 n2 (i_fn g) h = refl
-elements-none rd n1 n2 (i_use y xs) h = refl
 
 -- a sum that was cut off at the largest number is as little over a limit as the sum
 pub leb_uncut : (s t : ℕ) → min t 18446744073709551615 ≡ min (s + 0) 18446744073709551615 → leb s 262144 ≡ leb t 262144

@@ -5,3 +5,5 @@ pub mod Within
 pub mod Apart
 pub mod Split
 pub mod Head
+pub mod Entries
+pub mod Body

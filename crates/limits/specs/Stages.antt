@@ -1,13 +1,10 @@
 -- The stage of a program by its row: of a node by its tag, of a function's names by their kinds.
-use Rattle.std.specs.Prelude.{ℕ, max, Bool, ◌||◌, List, [], ◌∷◌, ◌==◌}
-use Rattle.language.specs.Syntax.{pick, stage_k, stage_ps, stage_as, stage_b, Fn}
+use Rattle.std.specs.Prelude.{ℕ, max, List, [], ◌∷◌}
+use Rattle.language.specs.Syntax.{stage_k, stage_ps, stage_as, stage_b, Fn}
 use Rattle.rows.specs.Nodes.{Node, n_num, n_var, n_bin, n_and, n_or, n_join, n_un, n_idx, n_len, n_call, n_by, n_in, n_set, n_store, n_ex, n_out, n_if, n_else, n_fi, n_loop, n_while, n_again, n_ret, n_break, n_next, n_end, n_arg}
 use Rattle.rows.specs.Trees.{Local}
 
 -- a[i], in() and a[i] = e; are of stage 1, len(a) is of stage 2, a call by a table of stage 6
-abbrev pub tag_stage : ℕ → ℕ
-tag_stage t = pick ((t == 7 || t == 11) || t == 13) 1 (pick (t == 8) 2 (pick (t == 10) 6 0))
-
 abbrev pub node_stage : Node → ℕ
 node_stage (n_num n) = 0
 node_stage (n_var x) = 0
@@ -41,17 +38,9 @@ abbrev pub nodes_stage : List Node → ℕ
 nodes_stage [] = 0
 nodes_stage (t ∷ ts) = max (node_stage t) (nodes_stage ts)
 
--- by the number of a kind: arrays of bytes have 1, arrays of words 2
-abbrev pub kind_stage : ℕ → ℕ
-kind_stage k = pick (k == 1) 5 (pick (k == 2) 2 0)
-
 abbrev pub locals_stage : List Local → ℕ
 locals_stage [] = 0
 locals_stage (l ∷ ls) = max (stage_k l.kind) (locals_stage ls)
 
 abbrev pub fn_stage : Fn → ℕ
 fn_stage g = max (stage_ps g.params) (max (stage_as g.arrs) (stage_b g.body))
-
--- what stands at the top, by its kind's number and whether it is of words, but for functions
-abbrev pub top_stage : ℕ → Bool → ℕ
-top_stage k wide = pick (k == 1) (pick wide 1 5) (pick (k == 2) (pick wide 4 5) (pick (k == 3) 6 (pick (k == 5) 3 0)))

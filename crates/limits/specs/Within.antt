@@ -2,11 +2,10 @@
 use Rattle.std.specs.Prelude.{ℕ, Bool, true, ◌&&◌, List, [], ◌∷◌, ◌++◌, length, nat_le}
 use Rattle.language.specs.Syntax.{Name, Fn, Item, i_word, i_arr, i_data, i_table, i_fn, i_use}
 use Rattle.language.specs.Checks.{once, sizes, words_ok, param_names, arr_names}
-use Rattle.rows.specs.Trees.{Local}
+use Rattle.rows.specs.Trees.{Local, map_list}
 
 abbrev pub local_names : List Local → List Name
-local_names [] = []
-local_names (l ∷ ls) = l.name ∷ local_names ls
+local_names ls = map_list (λ (l : Local). l.name) ls
 
 -- 1 to n elements
 abbrev pub size_within : ℕ → ℕ → Bool

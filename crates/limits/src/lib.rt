@@ -2,16 +2,18 @@
 #![tactic(auto)]
 
 mod differ;
-mod head;
+pub mod entries;
+pub mod head;
 mod items;
-mod pass;
+pub mod nodes;
+mod numbers;
 mod stages;
 mod totals;
 mod whole;
 
 pub use differ::{files_once, names_once};
+pub use entries::past_file;
 pub use items::item_fits;
-pub use pass::past_file;
 pub use stages::stage;
 pub use totals::totals_fit;
 pub use whole::{checks_split, fits};

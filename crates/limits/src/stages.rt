@@ -1,109 +1,92 @@
 // The stage of a program: the highest of its forms' stages.
-ghost use Rattle.std.specs.Prelude.{◌≡◌, ◌+◌, List, length};
-ghost use Rattle.language.specs.Syntax.{Fn, Item, File, Prog, stage_i, stage_is};
+ghost use Rattle.std.specs.Prelude.{◌≡◌, List};
+ghost use Rattle.language.specs.Syntax.{pick, Kind, Fn, Item, i_fn, File, Prog, stage_k, stage_i, stage_is};
 ghost use Rattle.language.specs.Syntax.{stage as stage_of};
 ghost use Rattle.rows.specs.Has.{Has};
-ghost use Rattle.rows.specs.Nodes.{Node, nodes_row};
-ghost use Rattle.rows.specs.Trees.{Local, local_row, list_row, fn_row, item_row, file_row, prog_row};
-ghost use Rattle.limits.specs.Stages.{tag_stage, nodes_stage, kind_stage, locals_stage, fn_stage, top_stage};
+ghost use Rattle.rows.specs.Kinds.{local_kind};
+ghost use Rattle.rows.specs.Nodes.{Node};
+ghost use Rattle.rows.specs.NodeTags.{tag_of};
+ghost use Rattle.rows.specs.Trees.{Local, local_row, item_row, file_row, prog_row};
+ghost use Rattle.limits.specs.Body.{NodesLeft};
+ghost use Rattle.limits.specs.Entries.{Left};
+ghost use Rattle.limits.specs.Stages.{node_stage, nodes_stage, locals_stage, fn_stage};
 
+use super::entries::{Entries, Locals, files_of, items_of};
 use super::head::head_of;
-use super::pass::{ARRAY, DATA, FUNCTION, TABLE, USE, past_file, past_local, past_locals};
-use rows::read::{at, past_item, past_name, past_node};
+use super::nodes::Body;
+use rows::kind::{ItemKind, LocalKind};
+use rows::read::{at, item_kind_at, local_kind_at, past_name, tag_at};
+use rows::tag::Tag;
 
 // The stage of a node by its tag.
-fn stage_of_tag(tag: usize) -> u32
-    ensures { result ≡ tag_stage tag }
+fn stage_of_tag(tag: Tag) -> u32
+    ensures { (t : Node) → tag ≡ tag_of t → result ≡ node_stage t }
 {
-    if (tag == 7) | (tag == 11) | (tag == 13) {
-        1
-    } else if tag == 8 {
-        2
-    } else if tag == 10 {
-        6
-    } else {
-        0
+    match tag {
+        Tag::Idx | Tag::In | Tag::Store => 1,
+        Tag::Len => 2,
+        Tag::By => 6,
+        _ => 0,
     }
 }
 
-// The stage of the nodes that stand from a place to another.
-fn stage_of_nodes(row: &[u32], place: usize, stop: usize) -> u32
-    ensures { (ts : List Node) → Has row.now place (nodes_row ts) → place + length (nodes_row ts) ≡ stop → result ≡ nodes_stage ts }
+// The stage of a body's nodes.
+fn stage_of_nodes(row: &[u32], nodes: Body) -> u32
+    ensures { (ts : List Node) → NodesLeft row.now nodes.entry ts → result ≡ nodes_stage ts }
 {
-    let mut here = place;
-    let mut stage = 0;
-    while here < stop {
-        stage = stage_of_tag(at(row, here)).max(stage);
-        here = past_node(row, here).max(here + 1);
-    }
-    stage
+    nodes.fold(0, |stage, node| stage.max(stage_of_tag(tag_at(row, node))))
 }
 
-// The stage of a name of a function by its kind's number.
-fn stage_of_kind(kind: usize) -> u32
-    ensures { result ≡ kind_stage kind }
+// The stage of a name of a function by its kind.
+fn stage_of_kind(kind: LocalKind) -> u32
+    ensures { (k : Kind) → kind ≡ local_kind k → result ≡ stage_k k }
 {
-    if kind == 1 {
-        5
-    } else if kind == 2 {
-        2
-    } else {
-        0
+    match kind {
+        LocalKind::Word => 0,
+        LocalKind::Bytes => 5,
+        LocalKind::Words => 2,
     }
 }
 
-// The stage of n names of a function.
-fn stage_of_locals(row: &[u32], place: usize, n: usize) -> u32
-    ensures { (ls : List Local) → Has row.now place (list_row local_row ls) → length ls ≡ n → result ≡ locals_stage ls }
+// The stage of names of a function.
+fn stage_of_locals(row: &[u32], locals: Entries<Locals>) -> u32
+    ensures { (ls : List Local) → Left local_row row.now locals.entry ls → result ≡ locals_stage ls }
 {
-    let mut here = place;
-    let mut left = n;
-    let mut stage = 0;
-    while left > 0 {
-        stage = stage_of_kind(at(row, here)).max(stage);
-        here = past_local(row, here);
-        left -= 1;
-    }
-    stage
+    locals.fold(
+        0,
+        |stage, local| stage.max(stage_of_kind(local_kind_at(row, local))),
+    )
 }
 
-// The stage of a function that stands from a place to another.
-fn stage_of_fn(row: &[u32], place: usize, stop: usize) -> u32
-    ensures { (g : Fn) → Has row.now place (fn_row g) → place + length (fn_row g) ≡ stop → result ≡ fn_stage g }
+// The stage of a function.
+fn stage_of_fn(row: &[u32], item: usize) -> u32
+    ensures { (g : Fn) → Has row.now item (item_row (i_fn g)) → result ≡ fn_stage g }
 {
-    let head = head_of(row, place);
-    let n = head.params + head.vars + head.arrays;
-    let body = past_locals(row, head.names, n);
-    stage_of_locals(row, head.names, n).max(stage_of_nodes(row, body, stop))
+    let locals = head_of(row, item).locals;
+    let nodes = Body::new(row, locals.end());
+    stage_of_locals(row, locals).max(stage_of_nodes(row, nodes))
 }
 
-// The stage of what stands at the top of a file, by its kind's number and whether it is of words; functions have more to be asked.
-fn stage_of_top(kind: usize, wide: bool) -> u32
-    ensures { result ≡ top_stage kind wide }
+// The stage of an array at the top: arrays of words have this stage.
+fn stage_of_array(wide: bool, words: u32) -> u32
+    ensures { result ≡ pick wide words 5 }
 {
-    if kind == ARRAY {
-        if wide { 1 } else { 5 }
-    } else if kind == DATA {
-        if wide { 4 } else { 5 }
-    } else if kind == TABLE {
-        6
-    } else if kind == USE {
-        3
-    } else {
-        0
-    }
+    if wide { words } else { 5 }
 }
 
 // The stage of what stands at the top of a file.
 fn stage_of_item(row: &[u32], item: usize) -> u32
     ensures { (i : Item) → Has row.now item (item_row i) → result ≡ stage_i i }
 {
-    let kind = at(row, item);
     let tail = past_name(row, item.saturating_add(2));
-    if kind == FUNCTION {
-        stage_of_fn(row, tail, past_item(row, item))
-    } else {
-        stage_of_top(kind, at(row, tail) == 1)
+    let wide = at(row, tail) == 1;
+    match item_kind_at(row, item) {
+        ItemKind::Word => 0,
+        ItemKind::Array => stage_of_array(wide, 1),
+        ItemKind::Data => stage_of_array(wide, 4),
+        ItemKind::Table => 6,
+        ItemKind::Function => stage_of_fn(row, item),
+        ItemKind::Use => 3,
     }
 }
 
@@ -111,30 +94,14 @@ fn stage_of_item(row: &[u32], item: usize) -> u32
 fn stage_of_file(row: &[u32], file: usize) -> u32
     ensures { (f : File) → Has row.now file (file_row f) → result ≡ stage_is f.items }
 {
-    let head = past_name(row, file);
-    let mut here = head.saturating_add(1);
-    let mut left = at(row, head);
-    let mut stage = 0;
-    while left > 0 {
-        stage = stage_of_item(row, here).max(stage);
-        here = past_item(row, here);
-        left -= 1;
-    }
-    stage
+    items_of(row, file).fold(0, |stage, item| stage.max(stage_of_item(row, item)))
 }
 
 // The stage of a program.
 pub fn stage(row: &[u32]) -> u32
     ensures { (p : Prog) → row.now ≡ prog_row p → result ≡ stage_of p }
 {
-    let files = at(row, 0);
-    let mut here = 1;
-    let mut left = files;
-    let mut stage = 0;
-    while left > 0 {
-        stage = stage_of_file(row, here).max(stage);
-        here = past_file(row, here);
-        left -= 1;
-    }
-    if files > 1 { stage.max(3) } else { stage }
+    let files = files_of(row);
+    let stage = files.fold(0, |stage, file| stage.max(stage_of_file(row, file)));
+    if files.len() > 1 { stage.max(3) } else { stage }
 }

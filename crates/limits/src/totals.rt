@@ -6,8 +6,10 @@ ghost use Rattle.rows.specs.Has.{Has};
 ghost use Rattle.rows.specs.Trees.{item_row, file_row, prog_row};
 ghost use Rattle.limits.specs.Totals.{elements};
 
-use super::pass::{ARRAY, DATA, number_at, past_file};
-use rows::read::{at, past_item, past_name};
+use super::entries::{files_of, items_of};
+use super::numbers::number_at;
+use rows::kind::ItemKind;
+use rows::read::{at, item_kind_at, past_name};
 
 // How many elements the arrays at the top of all files have at most.
 const MOST_ELEMENTS: usize = 262144;
@@ -16,14 +18,11 @@ const MOST_ELEMENTS: usize = 262144;
 fn elements_of_item(row: &[u32], item: usize) -> usize
     ensures { (i : Item) → Has row.now item (item_row i) → result ≡ elements i }
 {
-    let kind = at(row, item);
     let size = past_name(row, item.saturating_add(2)).saturating_add(1);
-    if kind == ARRAY {
-        number_at(row, size)
-    } else if kind == DATA {
-        at(row, size)
-    } else {
-        0
+    match item_kind_at(row, item) {
+        ItemKind::Array => number_at(row, size),
+        ItemKind::Data => at(row, size),
+        ItemKind::Word | ItemKind::Table | ItemKind::Function | ItemKind::Use => 0,
     }
 }
 
@@ -31,29 +30,19 @@ fn elements_of_item(row: &[u32], item: usize) -> usize
 fn elements_of_file(row: &[u32], file: usize) -> usize
     ensures { (f : File) → Has row.now file (file_row f) → result ≡ min (total f.items) 18446744073709551615 }
 {
-    let head = past_name(row, file);
-    let mut here = head.saturating_add(1);
-    let mut left = at(row, head);
-    let mut sum: usize = 0;
-    while left > 0 {
-        sum = sum.saturating_add(elements_of_item(row, here));
-        here = past_item(row, here);
-        left -= 1;
-    }
-    sum
+    items_of(row, file).fold(
+        0,
+        |sum: usize, item| sum.saturating_add(elements_of_item(row, item)),
+    )
 }
 
 // Whether the arrays at the top have no more elements together than they may.
 pub fn totals_fit(row: &[u32]) -> bool
     ensures { (p : Prog) → row.now ≡ prog_row p → result ≡ nat_le (totals p) 262144 }
 {
-    let mut here = 1;
-    let mut left = at(row, 0);
-    let mut sum: usize = 0;
-    while left > 0 {
-        sum = sum.saturating_add(elements_of_file(row, here));
-        here = past_file(row, here);
-        left -= 1;
-    }
+    let sum = files_of(row).fold(
+        0,
+        |sum: usize, file| sum.saturating_add(elements_of_file(row, file)),
+    );
     sum <= MOST_ELEMENTS
 }

@@ -6,43 +6,22 @@ ghost use Rattle.rows.specs.Trees.{file_row, prog_row};
 ghost use Rattle.limits.specs.Split.{items_within, files_within, within, Splits};
 
 use super::differ::{files_once, names_once};
+use super::entries::{files_of, items_of};
 use super::items::item_fits;
-use super::pass::past_file;
 use super::totals::totals_fit;
-use rows::read::{at, past_item, past_name};
 
 // Whether all that stands at the top of a file is within its limits.
 fn items_fit(row: &[u32], file: usize) -> bool
     ensures { (f : File) → Has row.now file (file_row f) → result ≡ items_within f.items }
 {
-    let head = past_name(row, file);
-    let mut here = head.saturating_add(1);
-    let mut left = at(row, head);
-    while left > 0 {
-        if !item_fits(row, here) {
-            return false;
-        }
-        here = past_item(row, here);
-        left -= 1;
-    }
-    true
+    items_of(row, file).all(|item| item_fits(row, item))
 }
 
 // Whether in each file the names differ and all that stands there is within its limits.
 fn files_fit(row: &[u32]) -> bool
     ensures { (p : Prog) → row.now ≡ prog_row p → result ≡ files_within p }
 {
-    let mut here = 1;
-    let mut left = at(row, 0);
-    while left > 0 {
-        let fits = items_fit(row, here) & names_once(row, here);
-        if !fits {
-            return false;
-        }
-        here = past_file(row, here);
-        left -= 1;
-    }
-    true
+    files_of(row).all(|file| items_fit(row, file) & names_once(row, file))
 }
 
 // Whether a program is all that it must be, but for what names stand for.

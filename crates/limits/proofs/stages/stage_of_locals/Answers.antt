@@ -1,18 +1,11 @@
 -- `stage_of_locals`: the stage of a function's names, name by name.
-use Rattle.std.proofs.Common.{ap, ◌∙◌, arith}
-use Rattle.rows.proofs.Having.{has_word}
-use Rattle.limits.specs.Stages.{kind_stage}
-use Rattle.limits.proofs.Walk.{rest-first, rest-next, rest-last}
-use Rattle.limits.proofs.StageLaws.{stage-kind}
+use Rattle.std.proofs.Common.{◌≡◌, max, arith, rules}
+use Rattle.language.specs.Syntax.{stage_k}
+use Rattle.rows.specs.Trees.{Local, local_row}
+use Rattle.limits.specs.Entries.{Left}
+use Rattle.limits.specs.Stages.{locals_stage}
+use Rattle.limits.proofs.EntryLaws.{fold_is}
 use Rattle.limits.proofs.stages.stage_of_locals.Goals as goal
 
-pub loop-left-init : goal.loop-left-init
-loop-left-init c = λ ls h e. rest-first ls h e (omega arith)
-
-pub loop-left-preserved : goal.loop-left-preserved
-loop-left-preserved c = λ ls h e.
-    rest-next (omega arith) c.past_local-here.ensures (λ x xs hx hr k p. omega (arith, ap kind_stage (c.at.ensures.is ∙ has_word hx) ∙ stage-kind x.kind))
-    (c.loop-left.invariant ls h e)
-
 pub returns : goal.returns
-returns c = λ ls h e. omega (arith, rest-last (omega arith) (c.loop-left.invariant ls h e))
+returns c = λ ls k. omega (arith, fold_is (Left local_row) (λ (l : Local). stage_k l.kind) max (λ a b l j f' h q. search rules) (λ a ms. locals_stage ls ≡ max a (locals_stage ms)) (λ a l ms p. omega arith) k (omega arith) c.fold.ensures.ran)

@@ -1,15 +1,9 @@
 -- `stage_of_nodes`: the stage of nodes, node by node.
-use Rattle.std.proofs.Common.{arith}
-use Rattle.limits.proofs.NodeWalk.{until_first, until_next, until_last, stage-here}
+use Rattle.std.proofs.Common.{◌≡◌, max, arith, rules}
+use Rattle.limits.specs.Body.{NodesLeft}
+use Rattle.limits.specs.Stages.{node_stage, nodes_stage}
+use Rattle.limits.proofs.EntryLaws.{fold_is}
 use Rattle.limits.proofs.stages.stage_of_nodes.Goals as goal
 
-pub loop-here-init : goal.loop-here-init
-loop-here-init c = λ ts h e. until_first ts h e (omega arith)
-
-pub loop-here-preserved : goal.loop-here-preserved
-loop-here-preserved c = λ ts h e.
-    until_next (omega arith) c.past_node.ensures c.max-here.ensures (λ t us ht p. omega (arith, stage-here t ht c.at.ensures.is))
-    (c.loop-here.invariant ts h e)
-
 pub returns : goal.returns
-returns c = λ ts h e. omega (arith, until_last (omega arith) (c.loop-here.invariant ts h e))
+returns c = λ ts k. omega (arith, fold_is NodesLeft node_stage max (λ a b t j f' h q. search rules) (λ a us. nodes_stage ts ≡ max a (nodes_stage us)) (λ a t us p. omega arith) k (omega arith) c.fold.ensures.ran)

@@ -1,20 +1,18 @@
 -- `elements_of_file`: the elements that a file adds, item by item, cut off at the largest number.
-use Rattle.std.proofs.Common.{arith}
-use Rattle.limits.proofs.Walk.{rest-next, rest-last}
-use Rattle.limits.proofs.Places.{passes, first_items}
+use Rattle.std.proofs.Common.{◌≡◌, ◌+◌, ◌≤◌, min, arith, rules}
+use Rattle.language.specs.Checks.{total}
+use Rattle.rows.specs.Trees.{item_row}
+use Rattle.limits.specs.Entries.{Left}
+use Rattle.limits.specs.Totals.{elements}
+use Rattle.limits.proofs.EntryLaws.{fold_is}
 use Rattle.limits.proofs.TotalLaws.{total-more}
 use Rattle.limits.proofs.totals.elements_of_file.Goals as goal
 
-pub loop-left-init : goal.loop-left-init
-loop-left-init c = (omega arith, λ f h. first_items (omega arith) c.past_name-head.ensures f h c.at-left.ensures.is c.saturating_add-here.ensures (omega arith))
-
-pub loop-left-preserved : goal.loop-left-preserved
-loop-left-preserved c = (
-  omega arith,
-  λ f h.
-      rest-next (omega arith) (passes c.past_item-here.ensures) (λ x xs hx hr k p. omega (arith, c.elements_of_item.ensures x hx, total-more x xs))
-      (c.loop-left.invariant.1 f h),
-)
-
 pub returns : goal.returns
-returns c = λ f h. omega (arith, rest-last (omega arith) (c.loop-left.invariant.1 f h))
+returns c = λ f h.
+    let r =
+    fold_is (Left item_row) elements (λ a n. min (a + n) 18446744073709551615) (λ a b i j f' k q. search rules)
+    (λ a is. (a ≤ 18446744073709551615) × (min (total f.items) 18446744073709551615 ≡ min (a + total is) 18446744073709551615)) (λ a i is p. (omega arith, omega (arith, p.1, total-more i is)))
+    (c.items_of.ensures.left f h) (omega arith, omega arith) c.fold.ensures.ran
+    in
+    omega (arith, r.0, r.1)

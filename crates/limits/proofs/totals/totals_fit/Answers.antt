@@ -1,18 +1,16 @@
 -- `totals_fit`: the elements of all files, file by file, and their limit.
-use Rattle.std.proofs.Common.{arith}
-use Rattle.limits.proofs.Walk.{rest-next, rest-last}
-use Rattle.language.specs.Checks.{totals}
-use Rattle.limits.proofs.Places.{first-files}
+use Rattle.std.proofs.Common.{◌≡◌, ◌+◌, min, arith, rules}
+use Rattle.language.specs.Syntax.{File}
+use Rattle.language.specs.Checks.{total, totals}
+use Rattle.rows.specs.Trees.{file_row}
+use Rattle.limits.specs.Entries.{Left}
+use Rattle.limits.proofs.EntryLaws.{fold_is}
 use Rattle.limits.proofs.TotalLaws.{leb_uncut}
 use Rattle.limits.proofs.totals.totals_fit.Goals as goal
 
-pub loop-left-init : goal.loop-left-init
-loop-left-init c = λ p e. first-files p e c.at-left.ensures.is (omega arith)
-
-pub loop-left-preserved : goal.loop-left-preserved
-loop-left-preserved c = λ p e.
-    rest-next (omega arith) c.past_file-here.ensures (λ f fs h hr k q. omega (arith, c.elements_of_file.ensures f h))
-    (c.loop-left.invariant p e)
-
 pub returns : goal.returns
-returns c = λ p e. leb_uncut c.loop-left.sum (totals p) (rest-last (omega arith) (c.loop-left.invariant p e))
+returns c = λ p e.
+    leb_uncut c.fold-sum.result (totals p)
+    (fold_is (Left file_row) (λ (f : File). min (total f.items) 18446744073709551615) (λ a n. min (a + n) 18446744073709551615) (λ a b f j f' k q. search rules)
+    (λ a fs. min (totals p) 18446744073709551615 ≡ min (a + totals fs) 18446744073709551615) (λ a f fs q. omega arith)
+    (c.files_of.ensures p e) (omega arith) c.fold-sum.ensures.ran)
