@@ -5,7 +5,7 @@
 use anyhow::anyhow;
 use chain::build;
 use lower::Built;
-use reports::explain;
+use messages::explain;
 use sources::{MOST, Source, join, read_sources, show_problem};
 
 mod files;

@@ -53,7 +53,10 @@ pub fn image_name(heap: Global, order: &Order) -> anyhow::Result<String> {
     match &order.image {
         Some(name) => Ok(name.clone()?),
         None => {
-            let first = order.files.first().map_or("image", |file| stem(file.as_str()));
+            let first = order
+                .files
+                .first()
+                .map_or("image", |file| stem(file.as_str()));
             Ok(format!(in heap; "{first}.img")?)
         }
     }

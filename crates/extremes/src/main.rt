@@ -4,7 +4,7 @@
 
 use anyhow::anyhow;
 use front::{Unreadable, read};
-use reports::explain;
+use messages::explain;
 use std::alloc::Global;
 use std::env;
 

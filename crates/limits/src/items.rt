@@ -18,14 +18,14 @@ use rows::read::{at, item_kind_at, past_name};
 // The most elements of an array at the top, and of a function's own.
 const MOST_AT_TOP: usize = 65536;
 
-const MOST_OWN: usize = 4096;
+pub const MOST_OWN: usize = 4096;
 
 // The most parameters, variables and arrays of a function.
-const MOST_PARAMS: usize = 8;
+pub const MOST_PARAMS: usize = 8;
 
-const MOST_VARS: usize = 64;
+pub const MOST_VARS: usize = 64;
 
-const MOST_ARRAYS: usize = 16;
+pub const MOST_ARRAYS: usize = 16;
 
 // How many bytes there are.
 const BYTES: usize = 256;

@@ -13,9 +13,9 @@ mod whole;
 
 pub use differ::{files_once, names_once};
 pub use entries::past_file;
-pub use items::item_fits;
+pub use items::{MOST_ARRAYS, MOST_OWN, MOST_PARAMS, MOST_VARS, item_fits};
 pub use stages::stage;
-pub use totals::totals_fit;
+pub use totals::{MOST_ELEMENTS, elements_of_item, totals_fit};
 pub use whole::{checks_split, fits};
 
 #[cfg(test)]

@@ -12,10 +12,10 @@ use rows::kind::ItemKind;
 use rows::read::{at, item_kind_at, past_name};
 
 // How many elements the arrays at the top of all files have at most.
-const MOST_ELEMENTS: usize = 262144;
+pub const MOST_ELEMENTS: usize = 262144;
 
 // How many elements an item adds.
-fn elements_of_item(row: &[u32], item: usize) -> usize
+pub fn elements_of_item(row: &[u32], item: usize) -> usize
     ensures { (i : Item) → Has row.now item (item_row i) → result ≡ elements i }
 {
     let size = past_name(row, item.saturating_add(2)).saturating_add(1);

@@ -1,2 +1,3 @@
 -- What is promised of a message.
 pub mod Explains
+pub mod Nesting

@@ -1,137 +1,186 @@
 // What an engineer is told of a text that is no program: where, and why.
 #![tactic(auto)]
 
+ghost use Rattle.std.specs.Prelude.{◌≤◌, length};
 ghost use Rattle.messages.specs.Explains.{Explains};
-ghost use Rattle.std.specs.Prelude.{◌+◌, ◌*◌, ◌≤◌, length, IfOk};
 
-use front::{Reading, read};
-use parser::parse;
+use front::{Parsed, Unreadable, parse_words, read};
 use pieces::refused::{Reason, Refused};
-use rows::row::Row;
+use places::Located;
 
-mod checking;
-mod places;
+mod body;
+mod closing;
+mod coarse;
+mod exact;
+mod files;
+mod function;
+mod item;
+mod nesting;
+pub mod outline;
 pub mod problem;
+mod search;
+mod seeking;
 
-use checking::check_problem;
-use problem::{Problem, What};
+use nesting::past_limit;
+use problem::{Fault, Problem, What};
+use search::Search;
 
 // Bytes of a text at most.
 const MOST_BYTES: usize = 32768;
 
-// Writes the row of a text, and says how many words it has; or where and why there is none.
-fn parse_row(text: &[u8], words: &mut [u32]) -> Result<usize, Refused>
-    requires { 4 * length text.now + 1 ≤ length words.old }
-    ensures { IfOk result (λ n. n ≤ length words.new) }
-{
-    let mut out = Row { words, len: 0 };
-    match parse(text, &mut out) {
-        Ok(_) => Ok(out.len),
-        Err(refused) => Err(refused),
+// Where a text is refused, and why.
+fn refusal_of(text: &[u8], refused: Refused) -> Located<Reason> {
+    Located {
+        at: match refused.reason {
+            Reason::TextTooLong => MOST_BYTES,
+            _ => text.len().saturating_sub(refused.left),
+        },
+        what: refused.reason,
     }
 }
 
-// What is wrong with a text that is no program.
-fn find_problem(text: &[u8], work: &mut [u32]) -> Problem {
-    if work.len() / 8 <= text.len() {
-        return Problem {
-            at: 0,
-            what: What::NoMain,
-        };
+// The same; the parser stops at the piece behind the one that is too many.
+fn exact_refusal(text: &[u8], refused: Refused) -> Located<Reason> {
+    let told = refusal_of(text, refused);
+    if text.len() > MOST_BYTES {
+        return told;
     }
-    let (words, pile) = work.split_at_mut(4 * text.len() + 1);
-    match parse_row(text, words) {
-        Ok(n) => check_problem(text, &words[..n], pile),
-        Err(refused) => Problem {
-            at: match refused.reason {
-                Reason::TextTooLong => MOST_BYTES,
-                _ => text.len().saturating_sub(refused.left),
-            },
-            what: What::Reads(refused.reason),
-        },
-    }
+    past_limit(text).unwrap_or(told)
+}
+
+// Where and why a text is no program, by what finds the fault of a tree and the place of a refusal.
+fn explain_by<C, R>(text: &[u8], work: &mut [u32], find_fault: C, refuse: R) -> Option<Problem>
+where
+    C: FnOnce(Search) -> Located<Fault>,
+    R: FnOnce(&[u8], Refused) -> Located<Reason>,
+    requires finds { C.IsAlwaysCallable find_fault }
+    requires refuses { R.IsAlwaysCallable refuse }
+    ensures { Explains text.now (length work.old) result }
+{
+    let Err(Unreadable::NoProgram) = read(text, work) else {
+        return None;
+    };
+    let found = match parse_words(text, work) {
+        Ok(Parsed { row, pile }) => find_fault(Search { text, row, pile }).map(What::Fails),
+        Err(refused) => refuse(text, refused).map(What::Reads),
+    };
+    Some(Located {
+        at: found.at.min(text.len()),
+        what: found.what,
+    })
 }
 
 // Where and why a text is no program; nothing if it is one, or if there are too few work words to tell.
 pub fn explain(text: &[u8], work: &mut [u32]) -> Option<Problem>
     ensures { Explains text.now (length work.old) result }
 {
-    match read(text, work) {
-        Reading::NoProgram => {}
-        _ => return None,
-    }
-    let found = find_problem(text, work);
-    Some(Problem {
-        at: found.at.min(text.len()),
-        what: found.what,
-    })
+    explain_by(text, work, exact::find_fault, exact_refusal)
+}
+
+// The same in outline: of what is wrong with an item, where the item begins.
+pub fn explain_outline(text: &[u8], work: &mut [u32]) -> Option<Problem>
+    ensures { Explains text.now (length work.old) result }
+{
+    explain_by(text, work, coarse::find_fault, refusal_of)
 }
 
 #[cfg(test)]
 mod tests {
     use super::*;
-    use std::process::Abort;
 
     fn problem_of(text: &[u8]) -> Option<Problem> {
         let mut work = [0; 81920];
         explain(text, &mut work)
     }
 
-    fn none_of(rt: &impl Abort, what: Option<Problem>) {
-        assert!(rt; what.is_none());
+    fn outline_of(text: &[u8]) -> Option<Problem> {
+        let mut work = [0; 81920];
+        explain_outline(text, &mut work)
     }
 
     // The place of a problem that is one of a name.
-    fn name_place(text: &[u8]) -> Option<usize> {
-        let found = problem_of(text)?;
+    fn name_place(found: Option<Problem>) -> Option<usize> {
+        let found = found?;
         match found.what {
-            What::UnknownName | What::WrongKind | What::DoubledName => Some(found.at),
+            What::Fails(Fault::UnknownName | Fault::WrongKind | Fault::DoubledName) => Some(
+                found.at,
+            ),
             _ => None,
         }
     }
 
     // The place of a problem that is one of a number or of a limit on how many there are.
-    fn limit_place(text: &[u8]) -> Option<usize> {
-        let found = problem_of(text)?;
+    fn limit_place(found: Option<Problem>) -> Option<usize> {
+        let found = found?;
         match found.what {
-            What::NumberTooLarge | What::SizeOutOfRange | What::Arguments => Some(found.at),
+            What::Fails(Fault::NumberTooLarge | Fault::SizeOutOfRange | Fault::Arguments) => Some(
+                found.at,
+            ),
             _ => None,
         }
     }
 
     // The place of a sign that was expected.
-    fn sign_place(text: &[u8], sign: u8) -> Option<usize> {
-        let found = problem_of(text)?;
-        match found.what {
-            What::Reads(Reason::Expected(other)) if other == sign => Some(found.at),
-            _ => None,
+    fn sign_place(found: Option<Problem>, sign: u8) -> Option<usize> {
+        let found = found?;
+        if found.what == What::Reads(Reason::Expected(sign)) {
+            Some(found.at)
+        } else {
+            None
         }
     }
 
     #[test]
     fn tells_nothing_of_a_program(rt: HostRuntime) {
-        none_of(&rt, problem_of(b"file a; fn main() { }"));
+        assert!(rt; problem_of(b"file a; fn main() { }").is_none());
+        assert!(rt; outline_of(b"file a; fn main() { }").is_none());
     }
 
     #[test]
     fn tells_signs(rt: HostRuntime) {
-        assert!(rt; sign_place(b"file a; fn main() { return (1; }", b')') == Some(29));
-        assert!(rt; sign_place(b"file a; fn main() { var x return 0; }", b';') == Some(26));
-        assert!(rt; sign_place(b"file a; fn main() {", b'}') == Some(19));
+        let (one, two, three) = (
+            b"file a; fn main() { return (1; }",
+            b"file a; fn main() { var x return 0; }",
+            b"file a; fn main() {",
+        );
+        assert!(rt; sign_place(problem_of(one), b')') == Some(29));
+        assert!(rt; sign_place(problem_of(two), b';') == Some(26));
+        assert!(rt; sign_place(problem_of(three), b'}') == Some(19));
+        assert!(rt; sign_place(outline_of(one), b')') == Some(29));
+        assert!(rt; sign_place(outline_of(two), b';') == Some(26));
+        assert!(rt; sign_place(outline_of(three), b'}') == Some(19));
     }
 
     #[test]
     fn tells_names(rt: HostRuntime) {
-        assert!(rt; name_place(b"file a; fn main() { return x; }") == Some(27));
-        assert!(rt; name_place(b"file a; array x[2]; fn main() { return x; }") == Some(39));
-        assert!(rt; name_place(b"file a; var x; fn x() { } fn main() { }") == Some(18));
+        let (one, two, three) = (
+            b"file a; fn main() { return x; }",
+            b"file a; array x[2]; fn main() { return x; }",
+            b"file a; var x; fn x() { } fn main() { }",
+        );
+        assert!(rt; name_place(problem_of(one)) == Some(27));
+        assert!(rt; name_place(problem_of(two)) == Some(39));
+        assert!(rt; name_place(problem_of(three)) == Some(18));
+        assert!(rt; name_place(outline_of(one)) == Some(27));
+        assert!(rt; name_place(outline_of(two)) == Some(39));
+        assert!(rt; name_place(outline_of(three)) == Some(18));
     }
 
     #[test]
     fn tells_limits(rt: HostRuntime) {
-        assert!(rt; limit_place(b"file a; fn main() { return 4294967296; }") == Some(27));
-        assert!(rt; limit_place(b"file a; array x[65537]; fn main() { }") == Some(8));
-        assert!(rt; limit_place(b"file a; fn main() { array x[4097]; }") == Some(8));
-        assert!(rt; limit_place(b"file a; fn f() { } fn main() { return f(1); }") == Some(38));
+        let (one, two, three, four) = (
+            b"file a; fn main() { return 4294967296; }",
+            b"file a; array x[65537]; fn main() { }",
+            b"file a; fn main() { array x[4097]; }",
+            b"file a; fn f() { } fn main() { return f(1); }",
+        );
+        assert!(rt; limit_place(problem_of(one)) == Some(27));
+        assert!(rt; limit_place(problem_of(two)) == Some(16));
+        assert!(rt; limit_place(problem_of(three)) == Some(28));
+        assert!(rt; limit_place(problem_of(four)) == Some(38));
+        assert!(rt; limit_place(outline_of(one)) == Some(27));
+        assert!(rt; limit_place(outline_of(two)) == Some(8));
+        assert!(rt; limit_place(outline_of(three)) == Some(8));
+        assert!(rt; limit_place(outline_of(four)) == Some(38));
     }
 }

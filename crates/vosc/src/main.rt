@@ -5,7 +5,8 @@
 use anyhow::anyhow;
 use chain::LANDED;
 use front::read;
-use messages::explain;
+use messages::explain_outline;
+use messages::outline::Outline;
 use sources::{MOST, Source, join, read_sources, show_problem};
 use std::env;
 
@@ -28,8 +29,8 @@ fn answer(rt: &HostRuntime, sources: &[Source]) -> anyhow::Result<bool> {
         }
         return Ok(true);
     }
-    if let Some(problem) = explain(text.as_slice(), work.as_mut_slice()) {
-        show_problem(rt, sources, problem.at, &problem.what)?;
+    if let Some(problem) = explain_outline(text.as_slice(), work.as_mut_slice()) {
+        show_problem(rt, sources, problem.at, &Outline(problem.what))?;
     }
     println!(rt; "no program")?;
     Ok(false)

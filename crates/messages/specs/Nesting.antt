@@ -4,7 +4,7 @@ use Rattle.std.specs.declared.option.Option as std
 use Rattle.grammar.specs.Text.{pieces, gap, flat, calm}
 use Rattle.pieces.specs.declared.refused.Reason.{Reason}
 use Rattle.pieces.specs.declared.refused.Reason.TheVariants.{BracketsTooDeep, SignsTooMany}
-use Rattle.reports.specs.declared.nesting.Refusal.{Refusal}
+use Rattle.places.specs.declared.located.Located.{Located}
 
 -- a limit of nesting that a text passes
 abbrev pub Passes : List ℕ → Reason → Type 0
@@ -12,5 +12,5 @@ Passes t BracketsTooDeep = flat 0 (pieces gap t) ≡ false
 Passes t SignsTooMany = calm 0 (pieces gap t) ≡ false
 Passes t _ = ⊥
 
-abbrev pub PastLimit : List ℕ → std.Option Refusal → Type 0
-PastLimit t r = MatchOption r ((flat 0 (pieces gap t) && calm 0 (pieces gap t)) ≡ true) (λ p. Passes t p.reason × (p.at ≤ length t))
+abbrev pub PastLimit : List ℕ → std.Option (Located Reason) → Type 0
+PastLimit t r = MatchOption r ((flat 0 (pieces gap t) && calm 0 (pieces gap t)) ≡ true) (λ p. Passes t p.what × (p.at ≤ length t))

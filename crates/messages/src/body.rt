@@ -1,0 +1,102 @@
+// What is wrong with a function's body: the first of its nodes that fails, and exactly where.
+use super::closing::left_at_name;
+use super::function::Function;
+use super::problem::Fault;
+use super::search::Search;
+use super::seeking::{from_large, from_leaving};
+use names::asking::{depth_past, effect_of};
+use names::body::body_of;
+use names::found::Listed;
+use names::kinds::names_of;
+use names::pile::follow;
+use places::{Located, from_argument, locate, past_pieces};
+use rows::read::{at, past_name, past_node, tag_at};
+use rows::tag::Tag;
+
+// How far a body is read.
+#[derive(Clone, Copy)]
+struct Reader {
+    // the place of the node
+    node: usize,
+    // the number of its name, in the order of nodes; the function's own names come first
+    name: usize,
+    // how many `break` and `continue` stand before it, and in how many loops it stands
+    leaving: usize,
+    depth: usize,
+    // how many kinds the pile has
+    len: usize,
+}
+
+impl Reader {
+    // Past a node, behind which the pile has so many kinds.
+    fn past(self, row: &[u32], len: usize) -> Reader {
+        let tag = tag_at(row, self.node);
+        Reader {
+            node: past_node(row, self.node),
+            name: self.name.saturating_add(usize::from(tag.has_name())),
+            leaving: self
+                .leaving
+                .saturating_add(usize::from(matches!(tag, Tag::Break | Tag::Next))),
+            depth: depth_past(tag, self.depth),
+            len,
+        }
+    }
+}
+
+// The first of the arguments on top of the pile that is not of its parameter's kind.
+fn unlike_argument(row: &[u32], params: Listed, pile: &[u32], len: usize) -> usize {
+    let from = len.saturating_sub(params.count);
+    let mut place = params.place;
+    for k in 0..params.count {
+        if at(pile, from.saturating_add(k)) != at(row, place) {
+            return k;
+        }
+        place = past_name(row, place.saturating_add(3));
+    }
+    0
+}
+
+// The text from the name of a node on; the text begins with the function.
+fn from_name<'a>(whole: &'a [u8], text: &[u8], name: usize) -> &'a [u8] {
+    let left = left_at_name(past_pieces(text, 2), name);
+    &whole[whole.len().saturating_sub(left)..]
+}
+
+impl Search<'_> {
+    // The body of a function, which the text begins with.
+    pub(super) fn check_function(
+        &mut self,
+        text: &[u8],
+        function: Function,
+    ) -> Result<(), Located<Fault>> {
+        let row = self.row;
+        let mut reader = Reader {
+            node: body_of(row, function.item),
+            name: names_of(row, function.item).count,
+            leaving: 0,
+            depth: 0,
+            len: 0,
+        };
+        for _ in 0..row.len() {
+            if let Err(fault) = function.check_node(reader.node, reader.depth) {
+                let place = match fault {
+                    Fault::NumberTooLarge => from_large(text),
+                    Fault::OutsideLoop => from_leaving(text, reader.leaving),
+                    _ => from_name(self.text, text, reader.name),
+                };
+                return Err(locate(self.text, place, fault));
+            }
+            if reader.len >= self.pile.len() {
+                return Ok(());
+            }
+            let effect = effect_of(row, function.file, function.item, reader.node, reader.depth);
+            let Some(len) = follow(row, effect, self.pile, reader.len) else {
+                let unlike = unlike_argument(row, effect.params, self.pile, reader.len);
+                let name = from_name(self.text, text, reader.name);
+                return Err(locate(self.text, from_argument(name, unlike), Fault::ArgumentKind));
+            };
+            reader = reader.past(row, len);
+        }
+        Ok(())
+    }
+}

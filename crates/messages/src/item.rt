@@ -1,0 +1,138 @@
+// What is wrong with an item of a file, and exactly where; the text begins with the item.
+use super::files::is_file;
+use super::function::Function;
+use super::problem::Fault;
+use super::search::Search;
+use super::seeking::{from_large, is_any_name, is_number};
+use limits::entries::{Entries, Names, used};
+use limits::head::head_of;
+use limits::{MOST_ARRAYS, MOST_OWN, MOST_PARAMS, MOST_VARS};
+use names::found::Listed;
+use names::items::{is_alike, is_there};
+use names::kinds::{names_of, params_first, params_named};
+use names::own::find_own;
+use places::{Located, from_piece, locate, past_pieces};
+use rows::kind::ItemKind;
+use rows::read::{at, item_kind_at, name_at, past_name, same_at};
+
+// The first of a function's names that comes a second time.
+fn doubled_name(row: &[u32], names: Listed) -> Option<usize> {
+    let mut place = names.place;
+    for k in 0..names.count {
+        let name = place.saturating_add(3);
+        if find_own(row, names.place, k, name).is_some() {
+            return Some(k);
+        }
+        place = past_name(row, name);
+    }
+    None
+}
+
+// The first of a function's arrays whose size is out of range; so many names stand before them.
+fn wrong_size(row: &[u32], names: Listed, before: usize) -> usize {
+    let mut place = names.place;
+    for k in 0..names.count {
+        let size = at(row, place.saturating_add(1));
+        let high = at(row, place.saturating_add(2));
+        if k >= before && (high != 0 || size == 0 || size > MOST_OWN) {
+            return k - before;
+        }
+        place = past_name(row, place.saturating_add(3));
+    }
+    0
+}
+
+// What is wrong with a function that is beyond its limits.
+fn function_limit(whole: &[u8], text: &[u8], row: &[u32], item: usize) -> Located<Fault> {
+    let head = head_of(row, item);
+    let params = head.params.len();
+    let names = names_of(row, item);
+    let (name, fault) = if params > MOST_PARAMS {
+        (MOST_PARAMS, Fault::TooManyParameters)
+    } else if head.vars > MOST_VARS {
+        (params + MOST_VARS, Fault::TooManyVariables)
+    } else if head.arrays > MOST_ARRAYS {
+        (params + head.vars + MOST_ARRAYS, Fault::TooManyArrays)
+    } else if let Some(again) = doubled_name(row, names) {
+        (again, Fault::DoubledName)
+    } else {
+        let size = wrong_size(row, names, params + head.vars);
+        return locate(
+            whole,
+            from_piece(text, size, is_number),
+            Fault::SizeOutOfRange,
+        );
+    };
+    locate(
+        whole,
+        from_piece(past_pieces(text, 2), name, is_any_name),
+        fault,
+    )
+}
+
+// What is wrong with an item that is beyond its limits.
+pub(super) fn limit_fault(whole: &[u8], text: &[u8], row: &[u32], item: usize) -> Located<Fault> {
+    let tail = past_name(row, item.saturating_add(2));
+    match item_kind_at(row, item) {
+        ItemKind::Function => function_limit(whole, text, row, item),
+        ItemKind::Data => if at(row, tail.saturating_add(1)) == 0 {
+            locate(whole, past_pieces(text, 3), Fault::NoValue)
+        } else {
+            locate(whole, from_large(text), Fault::NumberTooLarge)
+        },
+        _ => locate(whole, from_piece(text, 0, is_number), Fault::SizeOutOfRange),
+    }
+}
+
+// What is wrong with the functions of a table, which are named behind their number, and with which of them.
+fn table_fault(row: &[u32], file: usize, place: usize) -> (usize, Fault) {
+    let Some(params) = params_first(row, file, place) else {
+        return (0, Fault::UnknownName);
+    };
+    let unlike = Entries::<Names>::counted(row, place)
+        .enumerate()
+        .find(|(_, name)| !is_alike(row, file, params, *name));
+    match unlike {
+        Some((k, name)) if params_named(row, file, name).is_none() => (k, Fault::UnknownName),
+        Some((k, _)) => (k, Fault::TableUnlike),
+        None => (0, Fault::TableUnlike),
+    }
+}
+
+// The text from one of the names on that an item has in a list: it is the fourth piece or stands behind it, with commas between.
+pub(super) fn from_listed(text: &[u8], n: usize) -> &[u8] {
+    past_pieces(text, n.saturating_mul(2).saturating_add(3))
+}
+
+// What is wrong with what a use of a file takes of another.
+fn use_fault(whole: &[u8], text: &[u8], row: &[u32], file: usize, item: usize) -> Located<Fault> {
+    let name = item.saturating_add(2);
+    if same_at(row, name, file) || !is_file(row, at(row, 0), name_at(row, name)) {
+        return locate(whole, past_pieces(text, 1), Fault::UnknownFile);
+    }
+    let missing = used(row, item)
+        .position(|used| !is_there(row, name, used))
+        .unwrap_or(0);
+    locate(whole, from_listed(text, missing), Fault::NotThere)
+}
+
+impl Search<'_> {
+    // What an item refers to, of which a check fails.
+    pub(super) fn check_reference(
+        &mut self,
+        text: &[u8],
+        file: usize,
+        item: usize,
+    ) -> Result<(), Located<Fault>> {
+        let row = self.row;
+        match item_kind_at(row, item) {
+            ItemKind::Function => self.check_function(text, Function { row, file, item }),
+            ItemKind::Table => {
+                let list = past_name(row, item.saturating_add(2));
+                let (which, fault) = table_fault(row, file, list);
+                Err(locate(self.text, from_listed(text, which), fault))
+            }
+            _ => Err(use_fault(self.text, text, row, file, item)),
+        }
+    }
+}

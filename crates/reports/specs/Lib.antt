@@ -1,3 +1,0 @@
--- What is promised of a message.
-pub mod Explains
-pub mod Nesting
