@@ -1,5 +1,5 @@
 use Rattle.std.proofs.Common.{sym, ◌∙◌, arith}
-use Rattle.processor.proofs.Undo.{none_read, some_read, nothing, branch_none, imm_none, prod_none, reg_none, reg_some}
+use Rattle.processor.proofs.Undo.{none_read, some_read, nothing, branch_none, imm_none, prod_none, reg_none, prod_some, shift_some, reg_some}
 use Rattle.processor.proofs.decoding.decode.Goals as goal
 
 pub returns-in_err-ok-in-99 : goal.returns-in_err-ok-in-99
@@ -26,6 +26,22 @@ pub returns-in_ok-f-in-51-2 : goal.returns-in_ok-f-in-51-2
 returns-in_ok-f-in-51-2 c = (
   reg_some c.args.w _ _ c.part.ensures c.part-f3.ensures _ _ _ c.in_ok-f-in-51-2.f c.in-51.is
       (some_read _ _ _ c.in_ok-f-in-51-2.f c.try_from-else-f7-eq1.ensures c.in_ok-f-in-51-2.ensures.value ∙ c.above-else-f7-eq1.ensures)
+      c.part-rd.ensures c.part-r1.ensures c.part-r2.ensures,
+  omega arith,
+)
+
+pub returns-in_ok-f-in-51 : goal.returns-in_ok-f-in-51
+returns-in_ok-f-in-51 c = (
+  prod_some c.args.w _ _ c.part.ensures c.part-f3.ensures _ _ _ c.in_ok-f-in-51.f c.in-51.is c.if-f7-eq1.true
+      (some_read _ _ _ c.in_ok-f-in-51.f c.try_from-then-f7-eq1.ensures c.in_ok-f-in-51.ensures.value ∙ c.above-then-f7-eq1.ensures)
+      c.part-rd.ensures c.part-r1.ensures c.part-r2.ensures,
+  omega arith,
+)
+
+pub returns-in_ok-f-in-Err : goal.returns-in_ok-f-in-Err
+returns-in_ok-f-in-Err c = (
+  shift_some c.args.w _ _ c.part.ensures c.part-f3.ensures _ _ _ c.in_ok-f-in-Err.f c.in-19.is
+      (some_read _ _ _ c.in_ok-f-in-Err.f c.try_from-in-Err.ensures c.in_ok-f-in-Err.ensures.value ∙ c.above.ensures)
       c.part-rd.ensures c.part-r1.ensures c.part-r2.ensures,
   omega arith,
 )
