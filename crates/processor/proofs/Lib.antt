@@ -1,5 +1,4 @@
 pub mod Fields
-pub mod Registers
 pub mod Coded
 pub mod WordBits
 pub mod Undo

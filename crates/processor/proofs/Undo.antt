@@ -18,7 +18,7 @@ use Rattle.processor.specs.declared.instr.Shift.TheVariants.{Slli, Srli, Srai}
 use Rattle.processor.specs.declared.instr.Prod.{Prod}
 use Rattle.processor.specs.declared.instr.Prod.TheVariants.{Mul, Mulhu, Divu, Remu}
 use Rattle.processor.specs.declared.instr.Instr.{Instr}
-use Rattle.processor.specs.declared.instr.Instr.TheVariants.{OpShift, Op}
+use Rattle.processor.specs.declared.instr.Instr.TheVariants.{OpShift, Op, OpProd}
 
 -- one test, on both sides
 by : {A D : Type 0} (G : A → Next) (K : D → Next) (b : Bool) {u v : A} {p q : D} → G u ≡ K p → G v ≡ K q → G (pick b u v) ≡ K (pick b p q)
@@ -131,6 +131,26 @@ reg_read Sra = (refl, refl, refl)
 reg_read Or = (refl, refl, refl)
 reg_read And = (refl, refl, refl)
 
+prod_read : (f : Prod) (rd r1 r2 : ℕ) → prod_of (prod3 f) rd r1 r2 ≡ Some (OpProd f rd r1 r2)
+prod_read Mul rd r1 r2 = refl
+prod_read Mulhu rd r1 r2 = refl
+prod_read Divu rd r1 r2 = refl
+prod_read Remu rd r1 r2 = refl
+
+shift_fields : (f : Shift) (f3 f7 : ℕ) → f3 < 8 → shift7 f * 8 + shift3 f ≡ f3 + f7 * 8 → (f3 ≡ shift3 f) × (f7 ≡ shift7 f)
+shift_fields Slli f3 f7 h e = (omega arith, omega arith)
+shift_fields Srli f3 f7 h e = (omega arith, omega arith)
+shift_fields Srai f3 f7 h e = (omega arith, omega arith)
+
+shift_read : (f : Shift) (rd r1 x : ℕ) → (ok_imm (shift3 f) (shift7 f) ≡ true) × (imm_of (shift3 f) (eqb (shift7 f) 32) rd r1 x ≡ OpShift f rd r1 (x % 32))
+shift_read Slli rd r1 x = (refl, refl)
+shift_read Srli rd r1 x = (refl, refl)
+shift_read Srai rd r1 x = (refl, refl)
+
+-- the number of a shift is where a second register would be
+shift_by : (w : ℕ) → imm_i_of w % 32 ≡ f_2 w
+shift_by w = grind arith
+
 pub nothing : (o d : Option Instr) → o ≡ None → None ≡ d → (o ≡ d) × Known o
 nothing o d e h = (e ∙ h, rw e tt)
 
@@ -167,3 +187,16 @@ module _ (w p f3 : ℕ) (e : p ≡ w / 1 % 128) (e3 : f3 ≡ f_3 w) where
       let t = reg_fields f (f_3 w) (f_7 w) (omega arith) (ef ∙ ap (λ (n : ℕ). n + f_7 w * 8) e3) in
       let r = reg_read f in
       rw (ed, e1, e2, o, t.0, t.1, r.0, r.1, r.2)
+
+  pub prod_some : (rd r1 r2 : ℕ) (f : Prod) → p ≡ 51 → f_7 w ≡ 1 → 8 + prod3 f ≡ f3 + f_7 w * 8 → rd ≡ f_rd w → r1 ≡ f_1 w → r2 ≡ f_2 w → Some (OpProd f rd r1 r2) ≡ decode w
+  prod_some rd r1 r2 f ep e7 ef ed e1 e2 =
+      let o : f_op w ≡ 51 = omega arith in
+      let t3 : f_3 w ≡ prod3 f = omega arith in
+      rw (ed, e1, e2, o, e7, t3) (sym (prod_read f (f_rd w) (f_1 w) (f_2 w)))
+
+  pub shift_some : (rd r1 n : ℕ) (f : Shift) → p ≡ 19 → shift7 f * 8 + shift3 f ≡ f3 + f_7 w * 8 → rd ≡ f_rd w → r1 ≡ f_1 w → n ≡ f_2 w → Some (OpShift f rd r1 n) ≡ decode w
+  shift_some rd r1 n f ep ef ed e1 en =
+      let o : f_op w ≡ 19 = omega arith in
+      let t = shift_fields f (f_3 w) (f_7 w) (omega arith) (ef ∙ ap (λ (n : ℕ). n + f_7 w * 8) e3) in
+      let r = shift_read f (f_rd w) (f_1 w) (imm_i_of w) in
+      rw (ed, e1, en, o, t.0, t.1, r.0, r.1, shift_by w)

@@ -40,6 +40,7 @@ impl fmt::Display for Halt {
     }
 }
 
+// `r < 32` stays a clause: an instruction's registers are plain numbers, and `Regs` says it once of all of them.
 impl Cpu {
     pub(super) fn get(&self, r: u32) -> u32
         requires { r < 32 }

@@ -57,6 +57,7 @@ pub fn decode(w: u32) -> Option<Instr>
     let r1 = part(w, 15, 5);
     let r2 = part(w, 20, 5);
     let f7 = w >> 25;
+    let bits = above(f7, 3, f3);
     match part(w, 0, 7) {
         OP_LUI => Some(Instr::Lui(rd, w >> 12)),
         OP_AUIPC => Some(Instr::Auipc(rd, w >> 12)),
@@ -67,18 +68,13 @@ pub fn decode(w: u32) -> Option<Instr>
         OP_STORE => (f3 == 2).then_some(Instr::Sw(r1, r2, imm_s(w))),
         OP_IMM => match Imm::try_from(f3) {
             Ok(f) => Some(Instr::OpImm(f, rd, r1, imm_i(w))),
-            Err(KeptFree) => {
-                let f = Shift::try_from(above(f7, 3, f3)).ok()?;
-                Some(Instr::OpShift(f, rd, r1, r2))
-            }
+            Err(KeptFree) => Some(Instr::OpShift(Shift::try_from(bits).ok()?, rd, r1, r2)),
         },
         OP_REG => {
             if f7 == 1 {
-                let f = Prod::try_from(above(f7, 3, f3)).ok()?;
-                Some(Instr::OpProd(f, rd, r1, r2))
+                Some(Instr::OpProd(Prod::try_from(bits).ok()?, rd, r1, r2))
             } else {
-                let f = Alu::try_from(above(f7, 3, f3)).ok()?;
-                Some(Instr::Op(f, rd, r1, r2))
+                Some(Instr::Op(Alu::try_from(bits).ok()?, rd, r1, r2))
             }
         }
         _ => (w == ECALL).then_some(Instr::Ecall),
