@@ -6,11 +6,12 @@ use Rattle.pieces.specs.declared.refused.Refused.{Refused}
 use Rattle.pieces.specs.declared.seen.Look.{Look}
 use Rattle.pieces.specs.declared.seen.Look.TheVariants.{Num, Named, Tie, Minus, Before, OpenRound, ShutRound, OpenSquare, Comma, Len, Call, In, Other, End}
 use Rattle.pieces.specs.declared.seen.Op.{Op}
+use Rattle.pieces.specs.declared.seen.Unary.{Unary}
 use Rattle.language.specs.Syntax.{pick, Name, same, Expr, num, var, bin, un, and1, or1, idx, len, call, by_table, input, Exprs, no, and_then}
 use Rattle.grammar.specs.Text.{pieces, gap, is_name, t_lp, t_rp, t_lb, t_rb, t_comma}
 use Rattle.grammar.specs.Parse as parse
 use Rattle.grammar.specs.Parse.{Piece, p_num, p_name, p_op, p_minus, p_before, p_lp, p_rp, p_lb, p_comma, p_len, p_call, p_in, p_other, look, after, a_none, go_on, Go, g_more, g_end, g_none, o_or, o_and, o_bin, join, Res, fail, got, bind, eat, eat_name, climb, behind, args_by, args_of, next_by, named, name, signed, start, reader}
-use Rattle.pieces.specs.Seen.{op_of, piece_of, First, Nothing, ate, is_no_name, Ate, AteName, Tied}
+use Rattle.pieces.specs.Seen.{level_of, op_of, piece_of, First, Nothing, ate, is_no_name, Ate, AteName, Tied}
 use Rattle.rows.specs.Has as has
 use Rattle.rows.specs.Row.{Wrote}
 use Rattle.rows.specs.Nodes.{expr_row, args_row, count}
@@ -80,10 +81,10 @@ pub num-did : {t r : List ℕ} {o p : Row} (n : ℕ) → First (Num n) t r → W
 unfolding expr_row
 num-did n f w = let l = w.long in let m = f.some in let j = f.less in record { tree = num n; is = one-is (Num n) f; wrote = w; within = omega arith; on = omega arith }
 
-no_start : (k : Look) (x : Name) (s : List Name) → ((n : ℕ) → k ≡ Num n → ⊥) → ((w : Bor (List ℕ)) → k ≡ Named w → ⊥) → (k ≡ Minus → ⊥) → ((o : ℕ) → k ≡ Before o → ⊥) → (k ≡ OpenRound → ⊥) → (k ≡ Len → ⊥) → (k ≡ Call → ⊥) → (k ≡ In → ⊥) → start reader x (piece_of k) s ≡ fail
+no_start : (k : Look) (x : Name) (s : List Name) → ((n : ℕ) → k ≡ Num n → ⊥) → ((w : Bor (List ℕ)) → k ≡ Named w → ⊥) → (k ≡ Minus → ⊥) → ((o : Unary) → k ≡ Before o → ⊥) → (k ≡ OpenRound → ⊥) → (k ≡ Len → ⊥) → (k ≡ Call → ⊥) → (k ≡ In → ⊥) → start reader x (piece_of k) s ≡ fail
 no_start (Num n) x s a b c d e f g h = absurd (a n refl)
 no_start (Named w) x s a b c d e f g h = absurd (b w refl)
-no_start (Tie l o) x s a b c d e f g h = refl
+no_start (Tie o) x s a b c d e f g h = refl
 no_start Minus x s a b c d e f g h = absurd (c refl)
 no_start (Before o) x s a b c d e f g h = absurd (d o refl)
 no_start OpenRound x s a b c d e f g h = absurd (e refl)
@@ -96,7 +97,7 @@ no_start In x s a b c d e f g h = absurd (h refl)
 no_start Other x s a b c d e f g h = refl
 no_start End x s a b c d e f g h = refl
 
-pub one_none : {t r : List ℕ} (k : Look) → First k t r ⊎ Nothing t r → ((n : ℕ) → k ≡ Num n → ⊥) → ((w : Bor (List ℕ)) → k ≡ Named w → ⊥) → (k ≡ Minus → ⊥) → ((o : ℕ) → k ≡ Before o → ⊥) → (k ≡ OpenRound → ⊥) → (k ≡ Len → ⊥) → (k ≡ Call → ⊥) → (k ≡ In → ⊥) → reader.one (pieces gap t) ≡ fail
+pub one_none : {t r : List ℕ} (k : Look) → First k t r ⊎ Nothing t r → ((n : ℕ) → k ≡ Num n → ⊥) → ((w : Bor (List ℕ)) → k ≡ Named w → ⊥) → (k ≡ Minus → ⊥) → ((o : Unary) → k ≡ Before o → ⊥) → (k ≡ OpenRound → ⊥) → (k ≡ Len → ⊥) → (k ≡ Call → ⊥) → (k ≡ In → ⊥) → reader.one (pieces gap t) ≡ fail
 one_none {t} {r} k (inl x) a b c d e f g h = one-is k x ∙ no_start k x.word (pieces gap r) a b c d e f g h
 one_none k (inr x) a b c d e f g h = ap reader.one x.said ∙ reader-fixed.one_is []
 
@@ -127,8 +128,8 @@ mid-short o_or = omega arith
 mid-short o_and = omega arith
 mid-short (o_bin o) = omega arith
 
-pub far-more : {n l : ℕ} {s r q z : List ℕ} {o p p₁ p₂ p₃ : Row} (op : Op) → Far n s r o p → Tied l op r q → n ≤ l → Wrote p p₁ (mid (op_of op)) → Did 0 (climb reader (l + 1) (pieces gap q)) (expr_row false) q z p₁ p₂ → Wrote p₂ p₃ (post (op_of op)) → Far n s z o p₃
-far-more {n} {l} {s} {r} {q} {z} op f t h u d v =
+pub far-more : {n : ℕ} {s r q z : List ℕ} {o p p₁ p₂ p₃ : Row} (op : Op) → Far n s r o p → Tied op r q → n ≤ level_of op → Wrote p p₁ (mid (op_of op)) → Did 0 (climb reader (level_of op + 1) (pieces gap q)) (expr_row false) q z p₁ p₂ → Wrote p₂ p₃ (post (op_of op)) → Far n s z o p₃
+far-more {n} {s} {r} {q} {z} op f t h u d v =
     let ws : List ℕ = mid (op_of op) ++ (expr_row false d.tree ++ post (op_of op)) in
     let a₁ = u.long in let a₂ = v.long in let a₃ = mid-short (op_of op) in let a₄ = d.within in let a₅ = f.within in let a₆ = t.less in
     record {
@@ -208,6 +209,9 @@ table-did {k = k} {o = o} {z = z} x a b d e f g w =
       within = omega arith;
       on = omega arith;
     }
+
+pub table_bare : {t r₁ r₂ r₃ r₄ : List ℕ} {o p : Row} (x : Name) → AteName x t r₁ → Ate t_lb r₁ r₂ → Did 0 (climb reader 0 (pieces gap r₂)) (expr_row false) r₂ r₃ o p → Ate t_rb r₃ r₄ → ate t_lp (pieces gap r₄) ≡ none → start reader [] p_call (pieces gap t) ≡ fail
+table_bare {r₄ = r₄} x a b d e f = name-got x _ a ∙ eat-got t_lb _ b ∙ bind-got _ d.tree _ d.is ∙ eat-got t_rb _ e ∙ eat-fail t_lp (pieces gap r₄) _ f
 
 pub table_open : {t r : List ℕ} (x : Name) → AteName x t r → ate t_lb (pieces gap r) ≡ none → start reader [] p_call (pieces gap t) ≡ fail
 table_open {r = r} x a e = name-got x _ a ∙ eat-fail t_lb (pieces gap r) _ e

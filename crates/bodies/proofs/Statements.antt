@@ -37,7 +37,7 @@ parsed-map m n row row' s t o p (Ok x) d e f q c h k a = did_map d e f q c h k a
 parsed-map m n row row' s t o p (Err y) d e f q c h k a = q ∙ bind-fail _ a
 
 -- an expression and a semicolon
-eat-map : {A C : Type 0} (w : Name) (s : List Name) (a : A) (f : A → C) → eat w s (λ r. got (f a) r) ≡ bind (eat w s (λ r. got a r)) (λ x r. got (f x) r)
+pub eat-map : {A C : Type 0} (w : Name) (s : List Name) (a : A) (f : A → C) → eat w s (λ r. got (f a) r) ≡ bind (eat w s (λ r. got a r)) (λ x r. got (f x) r)
 eat-map w [] a f = refl
 eat-map w (x ∷ s) a f = go (same x w)
   where

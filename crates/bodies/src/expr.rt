@@ -2,31 +2,26 @@
 ghost use Rattle.std.specs.Prelude.{◌+◌, ◌*◌, ◌<◌, ◌≤◌, true, false, [], length, IfOk};
 ghost use Rattle.grammar.specs.Text.{pieces, gap};
 ghost use Rattle.grammar.specs.Parse.{reader, climb as climbs, args_of, name as names, signed as signs, start, p_lp, p_len, p_call, p_in};
+ghost use Rattle.pieces.specs.Seen.{unary_number};
 ghost use Rattle.bodies.specs.Outcome.{Ready, Parsed, ParsedArgs, ParsedChain};
 ghost use Rattle.rows.specs.Nodes.{expr_row};
 
-use super::put::{mark_arg, put_call, put_mid, put_named, put_post};
-use super::tag;
-use pieces::eating::{eat, eat_name};
+use super::put::{mark_arg, put_call, put_mid, put_named, put_num, put_post};
+use pieces::eating::{eat, expect, expect_name};
 use pieces::refused::{Reason, Refused, refuse};
-use pieces::seen::{Look, see, see_op};
+use pieces::seen::{Look, Unary, see, see_op};
 use rows::row::Row;
+use rows::tag::Tag;
 
 // len(x), behind the word.
 fn length_of<'a>(text: &'a [u8], out: &mut Row) -> Result<&'a [u8], Refused>
     requires ready { Ready 0 text.now out.old }
     ensures { Parsed 0 (start reader [] p_len (pieces gap text.now)) (expr_row false) text.now out.old out.new result }
 {
-    let Some(rest) = eat(text, b'(') else {
-        return Err(refuse(text, Reason::Expected(b'(')));
-    };
-    let Some((x, rest)) = eat_name(rest) else {
-        return Err(refuse(rest, Reason::ExpectedName));
-    };
-    let Some(rest) = eat(rest, b')') else {
-        return Err(refuse(rest, Reason::Expected(b')')));
-    };
-    put_named(out, tag::LEN, x);
+    let rest = expect(text, b'(')?;
+    let (x, rest) = expect_name(rest)?;
+    let rest = expect(rest, b')')?;
+    put_named(out, Tag::Len, x);
     Ok(rest)
 }
 
@@ -35,42 +30,35 @@ fn input<'a>(text: &'a [u8], out: &mut Row) -> Result<&'a [u8], Refused>
     requires ready { Ready 0 text.now out.old }
     ensures { Parsed 0 (start reader [] p_in (pieces gap text.now)) (expr_row false) text.now out.old out.new result }
 {
-    let Some(rest) = eat(text, b'(') else {
-        return Err(refuse(text, Reason::Expected(b'(')));
-    };
-    let Some(rest) = eat(rest, b')') else {
-        return Err(refuse(rest, Reason::Expected(b')')));
-    };
-    out.put(tag::IN);
+    let rest = expect(text, b'(')?;
+    let rest = expect(rest, b')')?;
+    out.put(Tag::In as u32);
     Ok(rest)
 }
 
 // An expression in brackets, behind the first of them.
-#[cycle(arg_args_brackets_by_table_chain_climb_more_args_name_one_signed)]
+#[cycle(expressions)]
 fn brackets<'a>(text: &'a [u8], out: &mut Row) -> Result<&'a [u8], Refused>
     requires ready { Ready 0 text.now out.old }
     ensures { Parsed 0 (start reader [] p_lp (pieces gap text.now)) (expr_row false) text.now out.old out.new result }
 {
     let rest = climb(text, 0, out)?;
-    let Some(rest) = eat(rest, b')') else {
-        return Err(refuse(rest, Reason::Expected(b')')));
-    };
-    Ok(rest)
+    expect(rest, b')')
 }
 
 // What stands behind a sign before one.
-#[cycle(arg_args_brackets_by_table_chain_climb_more_args_name_one_signed)]
-fn signed<'a>(text: &'a [u8], o: u32, out: &mut Row) -> Result<&'a [u8], Refused>
+#[cycle(expressions)]
+fn signed<'a>(text: &'a [u8], op: Unary, out: &mut Row) -> Result<&'a [u8], Refused>
     requires ready { Ready 2 text.now out.old }
-    ensures { Parsed 2 (signs reader o (pieces gap text.now)) (expr_row false) text.now out.old out.new result }
+    ensures { Parsed 2 (signs reader (unary_number op) (pieces gap text.now)) (expr_row false) text.now out.old out.new result }
 {
     let rest = one(text, out)?;
-    out.put2(tag::UN, o);
+    out.put_all(&[Tag::Un as u32, u32::from(op)]);
     Ok(rest)
 }
 
 // A name, and what it opens: a call, an index, or nothing.
-#[cycle(arg_args_brackets_by_table_chain_climb_more_args_name_one_signed)]
+#[cycle(expressions)]
 fn name<'a>(x: &[u8], text: &'a [u8], out: &mut Row) -> Result<&'a [u8], Refused>
     requires ready { Ready (4 * length x.now) text.now out.old }
     requires some { 1 ≤ length x.now }
@@ -79,47 +67,37 @@ fn name<'a>(x: &[u8], text: &'a [u8], out: &mut Row) -> Result<&'a [u8], Refused
 {
     if let Some(rest) = eat(text, b'(') {
         let (count, rest) = args(rest, out)?;
-        put_call(out, tag::CALL, count, x);
+        put_call(out, Tag::Call, count, x);
         return Ok(rest);
     }
     if let Some(rest) = eat(text, b'[') {
         let rest = climb(rest, 0, out)?;
-        let Some(rest) = eat(rest, b']') else {
-            return Err(refuse(rest, Reason::Expected(b']')));
-        };
-        put_named(out, tag::IDX, x);
+        let rest = expect(rest, b']')?;
+        put_named(out, Tag::Idx, x);
         return Ok(rest);
     }
-    put_named(out, tag::VAR, x);
+    put_named(out, Tag::Var, x);
     Ok(text)
 }
 
 // A call through a table, behind the word.
-#[cycle(arg_args_brackets_by_table_chain_climb_more_args_name_one_signed)]
+#[cycle(expressions)]
 fn by_table<'a>(text: &'a [u8], out: &mut Row) -> Result<&'a [u8], Refused>
     requires ready { Ready 0 text.now out.old }
     ensures { Parsed 0 (start reader [] p_call (pieces gap text.now)) (expr_row false) text.now out.old out.new result }
 {
-    let Some((x, rest)) = eat_name(text) else {
-        return Err(refuse(text, Reason::ExpectedName));
-    };
-    let Some(rest) = eat(rest, b'[') else {
-        return Err(refuse(rest, Reason::Expected(b'[')));
-    };
+    let (x, rest) = expect_name(text)?;
+    let rest = expect(rest, b'[')?;
     let rest = climb(rest, 0, out)?;
-    let Some(rest) = eat(rest, b']') else {
-        return Err(refuse(rest, Reason::Expected(b']')));
-    };
-    let Some(rest) = eat(rest, b'(') else {
-        return Err(refuse(rest, Reason::Expected(b'(')));
-    };
+    let rest = expect(rest, b']')?;
+    let rest = expect(rest, b'(')?;
     let (count, rest) = args(rest, out)?;
-    put_call(out, tag::BY, count, x);
+    put_call(out, Tag::By, count, x);
     Ok(rest)
 }
 
 // One, with the signs before it.
-#[cycle(arg_args_brackets_by_table_chain_climb_more_args_name_one_signed)]
+#[cycle(expressions)]
 pub fn one<'a>(text: &'a [u8], out: &mut Row) -> Result<&'a [u8], Refused>
     requires ready { Ready 0 text.now out.old }
     ensures { Parsed 0 (reader.one (pieces gap text.now)) (expr_row false) text.now out.old out.new result }
@@ -127,12 +105,13 @@ pub fn one<'a>(text: &'a [u8], out: &mut Row) -> Result<&'a [u8], Refused>
     let (look, rest) = see(text);
     match look {
         Look::Num(n) => {
-            out.put3(tag::NUM, (n % 4294967296) as u32, (n / 4294967296) as u32);
+            out.put(Tag::Num as u32);
+            put_num(out, n);
             Ok(rest)
         }
         Look::Named(x) => name(x, rest, out),
-        Look::Minus => signed(rest, 0, out),
-        Look::Before(o) => signed(rest, o, out),
+        Look::Minus => signed(rest, Unary::Negate, out),
+        Look::Before(op) => signed(rest, op, out),
         Look::OpenRound => brackets(rest, out),
         Look::Len => length_of(rest, out),
         Look::Call => by_table(rest, out),
@@ -142,16 +121,17 @@ pub fn one<'a>(text: &'a [u8], out: &mut Row) -> Result<&'a [u8], Refused>
 }
 
 // Operators and operands behind a first operand, as long as they hold at least as tightly as the level.
-#[cycle(arg_args_brackets_by_table_chain_climb_more_args_name_one_signed)]
+#[cycle(expressions)]
 pub fn chain<'a>(text: &'a [u8], level: u32, out: &mut Row) -> Result<&'a [u8], Refused>
     requires ready { Ready 0 text.now out.old }
     ensures { ParsedChain level text.now out.old out.new result }
 {
     let mut rest = text;
     loop {
-        let Some((tight, op, behind)) = see_op(rest) else {
+        let Some((op, behind)) = see_op(rest) else {
             return Ok(rest);
         };
+        let tight = op.level();
         if tight < level {
             return Ok(rest);
         }
@@ -162,7 +142,7 @@ pub fn chain<'a>(text: &'a [u8], level: u32, out: &mut Row) -> Result<&'a [u8], 
 }
 
 // An expression of operators that hold at least as tightly as the level.
-#[cycle(arg_args_brackets_by_table_chain_climb_more_args_name_one_signed)]
+#[cycle(expressions)]
 pub fn climb<'a>(text: &'a [u8], level: u32, out: &mut Row) -> Result<&'a [u8], Refused>
     requires ready { Ready 0 text.now out.old }
     ensures { Parsed 0 (climbs reader level (pieces gap text.now)) (expr_row false) text.now out.old out.new result }
@@ -172,7 +152,7 @@ pub fn climb<'a>(text: &'a [u8], level: u32, out: &mut Row) -> Result<&'a [u8], 
 }
 
 // An argument.
-#[cycle(arg_args_brackets_by_table_chain_climb_more_args_name_one_signed)]
+#[cycle(expressions)]
 fn arg<'a>(text: &'a [u8], out: &mut Row) -> Result<&'a [u8], Refused>
     requires ready { Ready 0 text.now out.old }
     ensures { Parsed 0 (climbs reader 0 (pieces gap text.now)) (expr_row true) text.now out.old out.new result }
@@ -184,7 +164,7 @@ fn arg<'a>(text: &'a [u8], out: &mut Row) -> Result<&'a [u8], Refused>
 }
 
 // Behind an argument: the others, up to the bracket and with it; and how many.
-#[cycle(arg_args_brackets_by_table_chain_climb_more_args_name_one_signed)]
+#[cycle(expressions)]
 fn more_args<'a>(text: &'a [u8], out: &mut Row) -> Result<(u32, &'a [u8]), Refused>
     requires ready { Ready 0 text.now out.old }
     ensures few { IfOk result (λ q. q.0 ≤ 32768) }
@@ -205,7 +185,7 @@ fn more_args<'a>(text: &'a [u8], out: &mut Row) -> Result<(u32, &'a [u8]), Refus
 }
 
 // Arguments up to the bracket, and with it; and how many.
-#[cycle(arg_args_brackets_by_table_chain_climb_more_args_name_one_signed)]
+#[cycle(expressions)]
 fn args<'a>(text: &'a [u8], out: &mut Row) -> Result<(u32, &'a [u8]), Refused>
     requires ready { Ready 0 text.now out.old }
     ensures { ParsedArgs (args_of reader (pieces gap text.now)) text.now out.old out.new result }

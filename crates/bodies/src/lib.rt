@@ -4,6 +4,6 @@
 mod expr;
 mod put;
 mod stmt;
-pub mod tag;
 
+pub use put::put_num;
 pub use stmt::body;

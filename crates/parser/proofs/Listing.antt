@@ -3,20 +3,21 @@ use Rattle.std.proofs.Common.{◌≡◌, ℕ, ◌+◌, ◌≤◌, Bool, true, fa
 use mathlib.Core.Option.{Option, some, none}
 use Rattle.language.specs.Syntax.{pick, opt, Name, same, k_arr, Arr}
 use Rattle.grammar.specs.Text.{pieces, gap, is_name, t_semi, t_comma, t_lb, t_rb, k_array, k_bytes, k_var}
-use Rattle.grammar.specs.Parse.{Res, fail, got, bind, num_of}
-use Rattle.grammar.specs.ParseAll.{names_in, nums_in, eat_num, vars_in, arr, arrs_as, arrs_step, again}
+use Rattle.grammar.specs.Parse.{Res, fail, got, bind, eat, num_of}
+use Rattle.grammar.specs.ParseAll.{size, names_in, nums_in, in_quotes, eat_num, vars_in, arr, arrs_as, arrs_step, again}
 use Rattle.grammar.proofs.Equations.{arrs-is}
 use Rattle.rows.specs.declared.row.Row.{Row}
 use Rattle.rows.specs.Row.{Wrote}
 use Rattle.rows.specs.Has.{named}
 use Rattle.rows.specs.Nodes.{num_row}
-use Rattle.rows.specs.Trees.{kind_no}
+use Rattle.rows.specs.Trees.{kind_no, list_row}
 use Rattle.rows.proofs.Writing.{wrote_none}
 use Rattle.pieces.specs.declared.refused.Refused.{Refused}
-use Rattle.pieces.specs.Seen.{ate, is_no_name, Ate, AteName, no_num, AteNum}
+use Rattle.pieces.specs.Seen.{ate, is_no_name, Ate, AteName, no_num, AteNum, no_text, AteText}
 use Rattle.bodies.specs.Outcome.{Spent, Did}
 use Rattle.bodies.proofs.Expressions.{bind-fail, bind-got, not_same, name-got, name-fail, eat-got, eat-fail}
-use Rattle.parser.specs.Lists.{DidList, Listed, name_row, array_row}
+use Rattle.parser.specs.Lists.{DidList, Listed, name_row, array_row, Sized, quoted_in}
+use Rattle.parser.proofs.Patching.{text_long}
 use Rattle.parser.proofs.Counting.{FarList, list_on, list_fail}
 
 -- names
@@ -103,20 +104,62 @@ vars-some o p (Ok x) a d =
     record { did = record { tree = d.did.tree; is = vars-is a ∙ d.did.is; wrote = d.did.wrote; within = omega arith; on = omega arith }; num = d.num; few = d.few }
 vars-some o p (Err y) a d = vars-is a ∙ d
 
+-- a size in brackets: what goes on behind it, and that nothing does where there is none
+pub size-did : {t r₁ r₂ r₃ r₄ : List ℕ} (n : ℕ) → Ate t_lb t r₁ → AteNum n r₁ r₂ → Ate t_rb r₂ r₃ → Ate t_semi r₃ r₄ → Sized n t r₄
+size-did n a b c d = record {
+  word = b.word;
+  said = a.said ∙ ap (λ l. t_lb ∷ l) (b.said ∙ ap (λ l. b.word ∷ l) (c.said ∙ ap (λ l. t_rb ∷ l) d.said));
+  is = b.is;
+  less = let i = a.less in let j = b.less in let l = c.less in let m = d.less in omega arith;
+  small = b.small;
+}
+
+pub size-got : {C : Type 0} {t r : List ℕ} (n : ℕ) (k : ℕ → List Name → Res C) → Sized n t r → size (pieces gap t) k ≡ k n (pieces gap r)
+size-got n k s = rw (s.said, s.is)
+
+eat-no : {A C : Type 0} (w : Name) (s : List Name) (f : List Name → Res A) (g : List Name → Res C) → ((r : List Name) → f r ≡ fail → g r ≡ fail) → eat w s f ≡ fail → eat w s g ≡ fail
+eat-no w [] f g h e = refl
+eat-no w (x ∷ s) f g h e = go (same x w) e
+  where
+    go : (b : Bool) → pick b (f s) fail ≡ fail → pick b (g s) fail ≡ fail
+    go true q = h s q
+    go false q = refl
+
+num-no : {A C : Type 0} (s : List Name) (f : ℕ → List Name → Res A) (g : ℕ → List Name → Res C) → ((n : ℕ) (r : List Name) → f n r ≡ fail → g n r ≡ fail) → eat_num s f ≡ fail → eat_num s g ≡ fail
+num-no [] f g h e = refl
+num-no (x ∷ s) f g h e = go (num_of x) e
+  where
+    go : (o : Option ℕ) → opt o fail (λ n. f n s) ≡ fail → opt o fail (λ n. g n s) ≡ fail
+    go none q = refl
+    go (some n) q = h n s q
+
+pub size-fail : {C : Type 0} (s : List Name) (k : ℕ → List Name → Res C) → size s (λ n r. got n r) ≡ fail → size s k ≡ fail
+size-fail s k e = eat-no t_lb s _ _ (λ s₂ e₂. num-no s₂ _ _ (λ n s₃ e₃. eat-no t_rb s₃ _ _ (λ s₄ e₄. eat-no t_semi s₄ _ _ (λ s₅ e₅. let y : ◌≡◌ {A = ℕ} 0 1 = cc in absurd (omega arith)) e₄) e₃) e₂) e
+
 -- an array
-pub arr-did : {t r₁ r₂ r₃ r₄ r₅ : List ℕ} {o p : Row} (b : Bool) (x : Name) (n k : ℕ) → AteName x t r₁ → Ate t_lb r₁ r₂ → AteNum n r₂ r₃ → Ate t_rb r₃ r₄ → Ate t_semi r₄ r₅ → k ≡ kind_no (k_arr b) → Wrote o p (k ∷ (num_row n ++ named x)) → Did 0 (arr b (pieces gap t)) array_row t r₅ o p
-arr-did {o = o} {p = p} b x n k a c d e f g w =
-    let i = a.less in let j = a.some in let l = w.long in
-    record { tree = record { name = x; wide = b; size = n }; is = name-got x _ a ∙ eat-got t_lb _ c ∙ num-got n _ d ∙ eat-got t_rb _ e ∙ eat-got t_semi _ f; wrote = subst (λ (y : ℕ). Wrote o p (y ∷ (num_row n ++ named x))) g w; within = omega arith; on = omega arith }
+pub arr-did : {t r q : List ℕ} {o p : Row} (b : Bool) (x : Name) (n k : ℕ) → AteName x t r → Sized n r q → k ≡ kind_no (k_arr b) → Wrote o p (k ∷ (num_row n ++ named x)) → Did 0 (arr b (pieces gap t)) array_row t q o p
+arr-did {o = o} {p = p} b x n k a c g w =
+    let i = a.less in let j = a.some in let l = w.long in let m = c.less in
+    record { tree = record { name = x; wide = b; size = n }; is = name-got x _ a ∙ size-got n _ c; wrote = subst (λ (y : ℕ). Wrote o p (y ∷ (num_row n ++ named x))) g w; within = omega arith; on = omega arith }
 
 pub arr-no-name : (b : Bool) (s : List Name) → is_no_name s ≡ true → arr b s ≡ fail
 arr-no-name b s e = name-fail s _ e
 
-pub arr-no-num : {t r q : List ℕ} (b : Bool) (x : Name) → AteName x t r → Ate t_lb r q → no_num (pieces gap q) ≡ true → arr b (pieces gap t) ≡ fail
-arr-no-num {q = q} b x a c e = name-got x _ a ∙ eat-got t_lb _ c ∙ num-fail (pieces gap q) _ e
+pub arr-no-size : {t r : List ℕ} (b : Bool) (x : Name) → AteName x t r → size (pieces gap r) (λ n z. got n z) ≡ fail → arr b (pieces gap t) ≡ fail
+arr-no-size {r = r} b x a e = name-got x _ a ∙ size-fail (pieces gap r) _ e
 
-pub arr-no-lb : {t r : List ℕ} (b : Bool) (x : Name) → AteName x t r → ate t_lb (pieces gap r) ≡ none → arr b (pieces gap t) ≡ fail
-arr-no-lb {r = r} b x a e = name-got x _ a ∙ eat-fail t_lb (pieces gap r) _ e
+-- a text for values
+pub text_did : {t r q : List ℕ} {o p : Row} (w : List ℕ) → length t ≤ 32768 → AteText w t r → Ate t_semi r q → Wrote o p (list_row num_row w) → DidList 0 (quoted_in (pieces gap t)) num_row t q (length w) o p
+text_did w h a b e =
+    let i = a.less in let j = b.less in let l = e.long in let u = text_long w in
+    record { did = record { tree = w; is = ap quoted_in a.said ∙ eat-got t_semi _ b; wrote = e; within = omega arith; on = omega arith }; num = refl; few = omega arith }
+
+pub text_no : (s : List Name) → no_text s ≡ true → quoted_in s ≡ fail
+text_no [] e = refl
+text_no (w ∷ s) e = opt-no (in_quotes w) _ e
+
+pub text_open : {t r : List ℕ} (w : List ℕ) → AteText w t r → ate t_semi (pieces gap r) ≡ none → quoted_in (pieces gap t) ≡ fail
+text_open {r = r} w a e = ap quoted_in a.said ∙ eat-fail t_semi (pieces gap r) _ e
 
 -- arrays
 abbrev pub arrs : List Name → Res (List Arr)

@@ -1,9 +1,11 @@
 -- What the code that reads lists answers: the list, its row, and how many there are. Rests on Outcome (bodies) and on the rows of trees.
-use Rattle.std.specs.Prelude.{◌≡◌, ℕ, ◌≤◌, Bool, List, length, Result, MatchResult}
+use Rattle.std.specs.Prelude.{◌≡◌, ℕ, ◌+◌, ◌<◌, ◌≤◌, Bool, List, [], ◌∷◌, length, Result, MatchResult}
 use Rattle.std.specs.Borrow.{Bor}
-use Rattle.language.specs.Syntax.{pick, Name, Kind, Param, Arr}
-use Rattle.grammar.specs.Text.{pieces, gap}
-use Rattle.grammar.specs.Parse.{Res, fail, got}
+use Rattle.std.proofs.Math.Option.{some}
+use Rattle.language.specs.Syntax.{pick, opt, Name, Kind, Param, Arr}
+use Rattle.grammar.specs.Text.{pieces, gap, t_lb, t_rb, t_semi}
+use Rattle.grammar.specs.Parse.{Res, fail, got, eat, num_of}
+use Rattle.grammar.specs.ParseAll.{nums_in, in_quotes}
 use Rattle.rows.specs.declared.row.Row.{Row}
 use Rattle.rows.specs.Has.{named}
 use Rattle.rows.specs.Trees.{list_row, local_row, kind_no, of_param, of_var, of_array}
@@ -35,3 +37,19 @@ pub record KindIs (m : Res Kind) (k : ℕ) (t r : List ℕ) : Type 0 where
   pub is : m ≡ got kind (pieces gap r)
   pub told : kind_no kind ≡ k
   pub less : length r ≤ length t
+
+-- a size in brackets, and a semicolon
+pub record Sized (n : ℕ) (t r : List ℕ) : Type 0 where
+  pub word : Name
+  pub said : pieces gap t ≡ t_lb ∷ word ∷ t_rb ∷ t_semi ∷ pieces gap r
+  pub is : num_of word ≡ some n
+  pub less : length r + 3 ≤ length t
+  pub small : n < 10000000000
+
+-- the values of an array: a text and a semicolon, or numbers
+abbrev pub quoted_in : List Name → Res (List ℕ)
+quoted_in [] = fail
+quoted_in (q ∷ s) = opt (in_quotes q) fail (λ ns. eat t_semi s (λ r. got ns r))
+
+abbrev pub values_in : Bool → List Name → Res (List ℕ)
+values_in wide s = pick wide (nums_in s) (quoted_in s)

@@ -8,9 +8,10 @@ ghost use Rattle.parser.specs.Lists.{Listed};
 ghost use Rattle.parser.specs.Programs.{file_of, ReadAs, Unread};
 
 use super::item::item;
-use pieces::eating::{at_end, eat, eat_name, eat_word};
+use pieces::eating::{at_end, eat_word, expect, expect_name};
 use pieces::flat::check_flat;
 use pieces::refused::{Reason, Refused, refuse};
+use pieces::words;
 use rows::row::Row;
 
 // The largest text.
@@ -27,7 +28,7 @@ fn items<'a>(text: &'a [u8], out: &mut Row) -> Result<(u32, &'a [u8]), Refused>
         if at_end(rest) {
             return Ok((count, rest));
         }
-        if let Some(_) = eat_word(rest, b"file") {
+        if let Some(_) = eat_word(rest, words::FILE) {
             return Ok((count, rest));
         }
         rest = item(rest, out)?;
@@ -40,12 +41,8 @@ fn file<'a>(text: &'a [u8], out: &mut Row) -> Result<&'a [u8], Refused>
     requires ready { Ready 0 text.now out.old }
     ensures { Parsed 0 (file_of (pieces gap text.now)) file_row text.now out.old out.new result }
 {
-    let Some((x, rest)) = eat_name(text) else {
-        return Err(refuse(text, Reason::ExpectedName));
-    };
-    let Some(rest) = eat(rest, b';') else {
-        return Err(refuse(rest, Reason::Expected(b';')));
-    };
+    let (x, rest) = expect_name(text)?;
+    let rest = expect(rest, b';')?;
     out.put_name(x);
     let at = out.len;
     out.put(0);
@@ -65,7 +62,7 @@ fn files<'a>(text: &'a [u8], out: &mut Row) -> Result<(u32, &'a [u8]), Refused>
         if at_end(rest) {
             return Ok((count, rest));
         }
-        let Some(behind) = eat_word(rest, b"file") else {
+        let Some(behind) = eat_word(rest, words::FILE) else {
             return Err(refuse(rest, Reason::ExpectedFile));
         };
         rest = file(behind, out)?;

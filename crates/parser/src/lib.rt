@@ -3,7 +3,6 @@
 
 mod file;
 mod item;
-mod kind;
 mod list;
 mod put;
 

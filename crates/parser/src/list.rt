@@ -2,17 +2,20 @@
 ghost use Rattle.std.specs.Prelude.{◌≡◌, ◌+◌, true, MatchResult};
 ghost use Rattle.language.specs.Syntax.{k_arr};
 ghost use Rattle.grammar.specs.Text.{pieces, gap};
-ghost use Rattle.grammar.specs.Parse.{fail};
-ghost use Rattle.grammar.specs.ParseAll.{names_in, nums_in, arr, arrs_step, again, par_kind, pars_step, pars_of, vars_in};
+ghost use Rattle.grammar.specs.Parse.{fail, got};
+ghost use Rattle.grammar.specs.ParseAll.{size, names_in, nums_in, arr, arrs_step, again, par_kind, pars_step, pars_of, vars_in};
+ghost use Rattle.rows.specs.Kinds.{local_kind_no};
 ghost use Rattle.rows.specs.Nodes.{num_row};
 ghost use Rattle.rows.specs.Trees.{kind_no};
 ghost use Rattle.bodies.specs.Outcome.{Ready, Parsed};
-ghost use Rattle.parser.specs.Lists.{Listed, name_row, array_row, param_row, KindIs};
+ghost use Rattle.parser.specs.Lists.{Sized, quoted_in, values_in, Listed, name_row, array_row, param_row, KindIs};
 
-use super::kind;
-use super::put::{put_listed, put_local, put_num};
-use pieces::eating::{eat, eat_name, eat_num, eat_word};
+use super::put::{put_listed, put_local, put_text};
+use bodies::put_num;
+use pieces::eating::{eat, eat_word, expect, expect_name, expect_num, expect_text};
 use pieces::refused::{Reason, Refused, refuse};
+use pieces::words;
+use rows::kind::LocalKind;
 use rows::row::Row;
 
 // Names with commas between, up to a semicolon and with it.
@@ -23,9 +26,7 @@ pub fn names_to<'a>(text: &'a [u8], local: bool, out: &mut Row) -> Result<(u32, 
     let mut rest = text;
     let mut count = 0;
     loop {
-        let Some((x, behind)) = eat_name(rest) else {
-            return Err(refuse(rest, Reason::ExpectedName));
-        };
+        let (x, behind) = expect_name(rest)?;
         if let Some(after) = eat(behind, b';') {
             put_listed(out, local, x);
             return Ok((count + 1, after));
@@ -40,16 +41,14 @@ pub fn names_to<'a>(text: &'a [u8], local: bool, out: &mut Row) -> Result<(u32, 
 }
 
 // Numbers with commas between, up to a semicolon and with it.
-pub fn nums_to<'a>(text: &'a [u8], out: &mut Row) -> Result<(u32, &'a [u8]), Refused>
+fn nums_to<'a>(text: &'a [u8], out: &mut Row) -> Result<(u32, &'a [u8]), Refused>
     requires ready { Ready 0 text.now out.old }
     ensures { Listed 0 (nums_in (pieces gap text.now)) num_row text.now out.old out.new result }
 {
     let mut rest = text;
     let mut count = 0;
     loop {
-        let Some((n, behind)) = eat_num(rest) else {
-            return Err(refuse(rest, Reason::ExpectedNumber));
-        };
+        let (n, behind) = expect_num(rest)?;
         if let Some(after) = eat(behind, b';') {
             put_num(out, n);
             return Ok((count + 1, after));
@@ -63,23 +62,44 @@ pub fn nums_to<'a>(text: &'a [u8], out: &mut Row) -> Result<(u32, &'a [u8]), Ref
     }
 }
 
+// A text in quotes up to a semicolon and with it, as numbers.
+fn text_to<'a>(text: &'a [u8], out: &mut Row) -> Result<(u32, &'a [u8]), Refused>
+    requires ready { Ready 0 text.now out.old }
+    ensures { Listed 0 (quoted_in (pieces gap text.now)) num_row text.now out.old out.new result }
+{
+    let (w, rest) = expect_text(text)?;
+    let rest = expect(rest, b';')?;
+    put_text(out, w);
+    Ok((w.len() as u32, rest))
+}
+
+// The values of an array: numbers for words, a text for bytes.
+pub fn values_to<'a>(text: &'a [u8], wide: bool, out: &mut Row) -> Result<(u32, &'a [u8]), Refused>
+    requires ready { Ready 0 text.now out.old }
+    ensures { Listed 0 (values_in wide (pieces gap text.now)) num_row text.now out.old out.new result }
+{
+    if wide {
+        nums_to(text, out)
+    } else {
+        text_to(text, out)
+    }
+}
+
 // What stands behind a parameter's name: nothing, or brackets.
-fn param_kind<'a>(text: &'a [u8]) -> Result<(u32, &'a [u8]), Refused>
-    ensures { MatchResult result (λ p. KindIs (par_kind (pieces gap text.now)) p.0 text.now p.1.now) (λ _. par_kind (pieces gap text.now) ≡ fail) }
+fn param_kind<'a>(text: &'a [u8]) -> Result<(LocalKind, &'a [u8]), Refused>
+    ensures { MatchResult result (λ p. KindIs (par_kind (pieces gap text.now)) (local_kind_no p.0) text.now p.1.now) (λ _. par_kind (pieces gap text.now) ≡ fail) }
 {
     let Some(rest) = eat(text, b'[') else {
-        return Ok((kind::LOCAL_WORD, text));
+        return Ok((LocalKind::Word, text));
     };
     if let Some(rest) = eat(rest, b']') {
-        return Ok((kind::LOCAL_ARRAY, rest));
+        return Ok((LocalKind::Words, rest));
     }
     let Some(rest) = eat(rest, b':') else {
         return Err(refuse(rest, Reason::Expected(b']')));
     };
-    let Some(rest) = eat(rest, b']') else {
-        return Err(refuse(rest, Reason::Expected(b']')));
-    };
-    Ok((kind::LOCAL_BYTES, rest))
+    let rest = expect(rest, b']')?;
+    Ok((LocalKind::Bytes, rest))
 }
 
 // Parameters, one at least, up to the bracket and with it.
@@ -90,9 +110,7 @@ fn more_params<'a>(text: &'a [u8], out: &mut Row) -> Result<(u32, &'a [u8]), Ref
     let mut rest = text;
     let mut count = 0;
     loop {
-        let Some((x, behind)) = eat_name(rest) else {
-            return Err(refuse(rest, Reason::ExpectedName));
-        };
+        let (x, behind) = expect_name(rest)?;
         let (kind, behind) = param_kind(behind)?;
         if let Some(after) = eat(behind, b')') {
             put_local(out, kind, 0, x);
@@ -123,20 +141,31 @@ pub fn vars_of<'a>(text: &'a [u8], out: &mut Row) -> Result<(u32, &'a [u8]), Ref
     requires ready { Ready 0 text.now out.old }
     ensures { Listed 1 (vars_in (pieces gap text.now)) (name_row true) text.now out.old out.new result }
 {
-    let Some(rest) = eat_word(text, b"var") else {
+    let Some(rest) = eat_word(text, words::VAR) else {
         return Ok((0, text));
     };
     names_to(rest, true, out)
 }
 
-fn array_kind(wide: bool) -> u32
-    ensures { result ≡ kind_no (k_arr wide) }
+fn array_kind(wide: bool) -> LocalKind
+    ensures { local_kind_no result ≡ kind_no (k_arr wide) }
 {
     if wide {
-        kind::LOCAL_ARRAY
+        LocalKind::Words
     } else {
-        kind::LOCAL_BYTES
+        LocalKind::Bytes
     }
+}
+
+// A size in brackets with its semicolon.
+pub fn size_of<'a>(text: &'a [u8]) -> Result<(u64, &'a [u8]), Refused>
+    ensures { MatchResult result (λ p. Sized p.0 text.now p.1.now) (λ _. size (pieces gap text.now) (λ n r. got n r) ≡ fail) }
+{
+    let rest = expect(text, b'[')?;
+    let (n, rest) = expect_num(rest)?;
+    let rest = expect(rest, b']')?;
+    let rest = expect(rest, b';')?;
+    Ok((n, rest))
 }
 
 // An array of a function, behind its first word: of words, or of bytes.
@@ -144,21 +173,8 @@ fn array<'a>(text: &'a [u8], wide: bool, out: &mut Row) -> Result<&'a [u8], Refu
     requires ready { Ready 0 text.now out.old }
     ensures { Parsed 0 (arr wide (pieces gap text.now)) array_row text.now out.old out.new result }
 {
-    let Some((x, rest)) = eat_name(text) else {
-        return Err(refuse(text, Reason::ExpectedName));
-    };
-    let Some(rest) = eat(rest, b'[') else {
-        return Err(refuse(rest, Reason::Expected(b'[')));
-    };
-    let Some((n, rest)) = eat_num(rest) else {
-        return Err(refuse(rest, Reason::ExpectedNumber));
-    };
-    let Some(rest) = eat(rest, b']') else {
-        return Err(refuse(rest, Reason::Expected(b']')));
-    };
-    let Some(rest) = eat(rest, b';') else {
-        return Err(refuse(rest, Reason::Expected(b';')));
-    };
+    let (x, rest) = expect_name(text)?;
+    let (n, rest) = size_of(rest)?;
     put_local(out, array_kind(wide), n, x);
     Ok(rest)
 }
@@ -171,11 +187,11 @@ pub fn arrays_of<'a>(text: &'a [u8], out: &mut Row) -> Result<(u32, &'a [u8]), R
     let mut rest = text;
     let mut count = 0;
     loop {
-        if let Some(behind) = eat_word(rest, b"array") {
+        if let Some(behind) = eat_word(rest, words::ARRAY) {
             rest = array(behind, true, out)?;
             count += 1;
         } else {
-            let Some(behind) = eat_word(rest, b"bytes") else {
+            let Some(behind) = eat_word(rest, words::BYTES) else {
                 return Ok((count, rest));
             };
             rest = array(behind, false, out)?;

@@ -1,40 +1,46 @@
-// Writing numbers, names of functions with their kinds, and the beginnings and ends of items.
-ghost use Rattle.std.specs.Prelude.{◌+◌, ◌-◌, ◌*◌, ◌<◌, ◌≤◌, ◌∷◌, ◌++◌, length};
+// Writing texts, names of functions with their kinds, and the beginnings and ends of items.
+ghost use Rattle.std.specs.Prelude.{◌≡◌, ◌+◌, ◌-◌, ◌*◌, ◌<◌, ◌≤◌, ◌∷◌, ◌++◌, length};
 ghost use Rattle.rows.specs.Has.{named};
+ghost use Rattle.rows.specs.Kinds.{item_kind_no, local_kind_no};
 ghost use Rattle.rows.specs.Nodes.{num_row};
 ghost use Rattle.rows.specs.Row.{Wrote, Patched};
 ghost use Rattle.rows.specs.Trees.{list_row};
 ghost use Rattle.parser.specs.Lists.{name_row};
 
-use super::kind;
+use bodies::put_num;
+use rows::kind::{ItemKind, LocalKind};
 use rows::row::Row;
-
-pub fn put_num(out: &mut Row, n: u64)
-    requires { out.old.len + 2 ≤ length out.old.words.now }
-    ensures { Wrote out.old out.new (num_row n) }
-{
-    out.put2((n % 4294967296) as u32, (n / 4294967296) as u32);
-}
 
 // The bytes of a text, each as a number.
 pub fn put_text(out: &mut Row, w: &[u8])
     requires { out.old.len + 2 * length w.now ≤ length out.old.words.now }
     ensures { Wrote out.old out.new (list_row num_row w.now) }
 {
-    let mut i = 0;
-    while i < w.len() {
-        put_num(out, w[i] as u64);
-        i += 1;
+    for byte in w {
+        put_num(out, u64::from(*byte));
     }
 }
 
+fn local_number(kind: LocalKind) -> u32
+    ensures { result ≡ local_kind_no kind }
+{
+    kind as u32
+}
+
+fn item_number(kind: ItemKind) -> u32
+    ensures { result ≡ item_kind_no kind }
+{
+    kind as u32
+}
+
 // A name of a function: its kind, its size, the name.
-pub fn put_local(out: &mut Row, kind: u32, size: u64, x: &[u8])
+pub fn put_local(out: &mut Row, kind: LocalKind, size: u64, x: &[u8])
     requires room { out.old.len + (length x.now + 4) ≤ length out.old.words.now }
     requires short { length x.now ≤ 32 }
-    ensures { Wrote out.old out.new (kind ∷ (num_row size ++ named x.now)) }
+    ensures { Wrote out.old out.new (local_kind_no kind ∷ (num_row size ++ named x.now)) }
 {
-    out.put3(kind, (size % 4294967296) as u32, (size / 4294967296) as u32);
+    out.put(local_number(kind));
+    put_num(out, size);
     out.put_name(x);
 }
 
@@ -45,19 +51,19 @@ pub fn put_listed(out: &mut Row, local: bool, x: &[u8])
     ensures { Wrote out.old out.new (name_row local x.now) }
 {
     if local {
-        put_local(out, kind::LOCAL_WORD, 0, x);
+        put_local(out, LocalKind::Word, 0, x);
     } else {
         out.put_name(x);
     }
 }
 
 // An item's kind, the place of its length, its name.
-pub fn open_item(out: &mut Row, kind: u32, x: &[u8])
+pub fn open_item(out: &mut Row, kind: ItemKind, x: &[u8])
     requires room { out.old.len + (length x.now + 3) ≤ length out.old.words.now }
     requires short { length x.now ≤ 32 }
-    ensures { Wrote out.old out.new (kind ∷ 0 ∷ named x.now) }
+    ensures { Wrote out.old out.new (item_kind_no kind ∷ 0 ∷ named x.now) }
 {
-    out.put2(kind, 0);
+    out.put_all(&[item_number(kind), 0]);
     out.put_name(x);
 }
 

@@ -3,4 +3,4 @@ use Rattle.bodies.proofs.Expressions.{input-did}
 use Rattle.bodies.proofs.expr.input.Goals as goal
 
 pub returns : goal.returns
-returns c = input-did c.in-Some.ensures c.in-Some-eat.ensures c.put.ensures
+returns c = input-did c.in_ok-rest.ensures c.in_ok-rest-2.ensures c.put.ensures

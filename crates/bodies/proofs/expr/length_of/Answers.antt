@@ -1,12 +1,10 @@
 -- Proof of `length_of`.
-use Rattle.bodies.proofs.Expressions.{length-did, length-no-name, length_open}
+use Rattle.std.proofs.lemmas.Result.{MatchResult-from_err}
+use Rattle.bodies.proofs.Expressions.{length-did, length-no-name}
 use Rattle.bodies.proofs.expr.length_of.Goals as goal
 
-pub returns-in_default-eat_name : goal.returns-in_default-eat_name
-returns-in_default-eat_name c = length-no-name c.in-Some.ensures c.in_default-eat_name.ensures
+pub returns-in_err-x : goal.returns-in_err-x
+returns-in_err-x c = MatchResult-from_err c.from_residual-in_err-x.result _ _ c.from_residual-in_err-x.ensures.0 (λ y. length-no-name c.in_ok-rest.ensures c.in_err-x.ensures.0)
 
 pub returns : goal.returns
-returns c = length-did c.in-Some-eat_name.x.now c.in-Some.ensures c.in-Some-eat_name.ensures c.in-Some-eat.ensures c.put_named.ensures
-
-pub returns-in_default-eat : goal.returns-in_default-eat
-returns-in_default-eat c = length_open c.in-Some-eat_name.x.now c.in-Some.ensures c.in-Some-eat_name.ensures c.in_default-eat.ensures
+returns c = length-did c.in_ok-x.x.now c.in_ok-rest.ensures c.in_ok-x.ensures c.in_ok-rest-2.ensures c.put_named.ensures

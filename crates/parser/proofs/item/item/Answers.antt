@@ -11,7 +11,7 @@ pub returns-in-Some-eat_word : goal.returns-in-Some-eat_word
 returns-in-Some-eat_word c = by-head c.args.out.now c.array_item.new.out k_array h_array c.array_item.result head-array c.in-Some-eat_word.ensures c.array_item.ensures
 
 pub returns-in-Some-eat_word-2 : goal.returns-in-Some-eat_word-2
-returns-in-Some-eat_word-2 c = by-head c.args.out.now c.bytes_item.new.out k_bytes h_bytes c.bytes_item.result head_bytes c.in-Some-eat_word-2.ensures c.bytes_item.ensures
+returns-in-Some-eat_word-2 c = by-head c.args.out.now c.array_item-in-Some-eat_word-2.new.out k_bytes h_bytes c.array_item-in-Some-eat_word-2.result head_bytes c.in-Some-eat_word-2.ensures c.array_item-in-Some-eat_word-2.ensures
 
 pub returns-in-Some-eat_word-3 : goal.returns-in-Some-eat_word-3
 returns-in-Some-eat_word-3 c = by-head c.args.out.now c.table_item.new.out k_table h_table c.table_item.result head-table c.in-Some-eat_word-3.ensures c.table_item.ensures

@@ -9,4 +9,4 @@ pub returns-in-Some-eat : goal.returns-in-Some-eat
 returns-in-Some-eat c = kind-wide c.in-Some.ensures c.in-Some-eat.ensures
 
 pub returns : goal.returns
-returns c = kind_byte c.in-Some.ensures c.in-Some-eat-2.ensures c.in-Some-eat-3.ensures
+returns c = kind_byte c.in-Some.ensures c.in-Some-eat-2.ensures c.in_ok-rest.ensures

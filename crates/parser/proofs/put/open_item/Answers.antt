@@ -3,4 +3,4 @@ use Rattle.rows.proofs.Writing.{wrote-more}
 use Rattle.parser.proofs.put.open_item.Goals as goal
 
 pub returns : goal.returns
-returns c = wrote-more c.put2.ensures c.put_name.ensures
+returns c = rw (← c.item_number.ensures) (wrote-more c.put_all.ensures c.put_name.ensures)

@@ -6,7 +6,7 @@ use Rattle.grammar.specs.Text.{pieces, gap}
 use Rattle.pieces.specs.declared.lead.Lead.TheVariants.{Out, Return, Break, Next, Other}
 use Rattle.pieces.proofs.Leading.{led_at}
 use Rattle.bodies.proofs.Statements.{body-none, body-on, body-did, body-fail, stmt-nil, else_did, if_did, while_did, st_semi, st_out, st_ret, st_just, st_break, st_next, st_ex}
-use Rattle.bodies.proofs.stmt.+body_else_of_if_of_statement_while_of.Goals as goal
+use Rattle.bodies.proofs.stmt.+statements.Goals as goal
 
 pub body-loop-behind-init : goal.body-loop-behind-init
 body-loop-behind-init t c = body-none c.args.text.now c.args.out.now
@@ -27,10 +27,10 @@ pub else_of-returns-in_default : goal.else_of-returns-in_default
 else_of-returns-in_default t c = else_did c.args.text.now c.args.out.now c.in_default.ensures
 
 pub if_of-returns : goal.if_of-returns
-if_of-returns t c = if_did c.in_ok-rest.ensures c.in-Some.ensures c.put.ensures c.in_ok-rest-2.ensures c.put-2.ensures c.in_ok-rest-3.ensures c.put-3.ensures
+if_of-returns t c = if_did c.in_ok-rest.ensures c.in_ok-rest-2.ensures c.put.ensures c.in_ok-rest-3.ensures c.put-2.ensures c.in_ok-rest-4.ensures c.put-3.ensures
 
 pub while_of-returns : goal.while_of-returns
-while_of-returns t c = while_did c.put.ensures c.in_ok-rest.ensures c.in-Some.ensures c.put-2.ensures c.in_ok-rest-2.ensures c.put-3.ensures
+while_of-returns t c = while_did c.put.ensures c.in_ok-rest.ensures c.in_ok-rest-2.ensures c.put-2.ensures c.in_ok-rest-3.ensures c.put-3.ensures
 
 pub statement-returns-in-Out : goal.statement-returns-in-Out
 statement-returns-in-Out t c = st_semi c.args.out.now c.with_semi.new.out c.with_semi.result Out (led_at _ _ Out c.in-Out.is c.see_lead.ensures) out1 15 refl st_out c.with_semi.ensures

@@ -1,7 +1,7 @@
 -- Loops and recursion of `arg`, `args`, `brackets`, `by_table`, `chain`, `climb`, `more_args`, `name`, `one`, `signed`: what holds, and what becomes less.
 use Rattle.std.proofs.Common.{◌+◌, ◌*◌, length}
 use Rattle.bodies.proofs.Expressions.{Far, FarArgs}
-use Rattle.bodies.proofs.expr.+arg_args_brackets_by_table_chain_climb_more_args_name_one_signed.Given as goal
+use Rattle.bodies.proofs.expr.+expressions.Given as goal
 
 abbrev pub decreases-arg : goal.decreases-arg
 decreases-arg l = 4 * length l.text.now + 2
@@ -33,11 +33,11 @@ decreases-one l = 4 * length l.text.now
 abbrev pub decreases-signed : goal.decreases-signed
 decreases-signed l = 4 * length l.text.now + 2
 
-abbrev pub invariant-chain-loop-tight : goal.invariant-chain-loop-tight
-invariant-chain-loop-tight l = Far l.level l.initial.rest l.rest l.initial.out l.out
+abbrev pub invariant-chain-loop-op : goal.invariant-chain-loop-op
+invariant-chain-loop-op l = Far l.level l.initial.rest l.rest l.initial.out l.out
 
-abbrev pub decreases-chain-loop-tight : goal.decreases-chain-loop-tight
-decreases-chain-loop-tight l = length l.rest
+abbrev pub decreases-chain-loop-op : goal.decreases-chain-loop-op
+decreases-chain-loop-op l = length l.rest
 
 abbrev pub decreases-more_args-loop-behind : goal.decreases-more_args-loop-behind
 decreases-more_args-loop-behind l = length l.rest

@@ -1,7 +1,7 @@
 -- Loops and recursion of `body`, `else_of`, `if_of`, `statement`, `while_of`: what holds, and what becomes less.
 use Rattle.std.proofs.Common.{◌+◌, ◌*◌, length}
 use Rattle.bodies.proofs.Statements.{FarBody}
-use Rattle.bodies.proofs.stmt.+body_else_of_if_of_statement_while_of.Given as goal
+use Rattle.bodies.proofs.stmt.+statements.Given as goal
 
 abbrev pub decreases-body : goal.decreases-body
 decreases-body l = 4 * length l.text.now + 1
