@@ -80,13 +80,6 @@ nums-no (x ∷ w ∷ s) e = opt-no (num_of x) _ e
 pub num-spent : {t r q : List ℕ} {o p : Row} (n : ℕ) (y : Name) → AteNum n t r → Ate y r q → Wrote o p (num_row n) → Spent 0 t q o p
 num-spent n y a b w = let l = w.long in let i = a.less in let k = b.less in omega arith
 
-pub num-fail : {C : Type 0} (s : List Name) (k : ℕ → List Name → Res C) → no_num s ≡ true → eat_num s k ≡ fail
-num-fail [] k e = refl
-num-fail (w ∷ s) k e = opt-no (num_of w) (λ n. k n s) e
-
-pub num-got : {C : Type 0} {t r : List ℕ} (n : ℕ) (k : ℕ → List Name → Res C) → AteNum n t r → eat_num (pieces gap t) k ≡ k n (pieces gap r)
-num-got n k a = rw (a.said, a.is)
-
 -- variables
 vars-rest : (s : List Name) → ate k_var s ≡ none → vars_in s ≡ got [] s
 vars-rest [] e = refl
@@ -103,16 +96,6 @@ vars-some o p (Ok x) a d =
     let l = a.less in let u = d.did.within in let v = d.did.on in
     record { did = record { tree = d.did.tree; is = vars-is a ∙ d.did.is; wrote = d.did.wrote; within = omega arith; on = omega arith }; num = d.num; few = d.few }
 vars-some o p (Err y) a d = vars-is a ∙ d
-
--- a size in brackets: what goes on behind it, and that nothing does where there is none
-pub size-did : {t r₁ r₂ r₃ r₄ : List ℕ} (n : ℕ) → Ate t_lb t r₁ → AteNum n r₁ r₂ → Ate t_rb r₂ r₃ → Ate t_semi r₃ r₄ → Sized n t r₄
-size-did n a b c d = record {
-  word = b.word;
-  said = a.said ∙ ap (λ l. t_lb ∷ l) (b.said ∙ ap (λ l. b.word ∷ l) (c.said ∙ ap (λ l. t_rb ∷ l) d.said));
-  is = b.is;
-  less = let i = a.less in let j = b.less in let l = c.less in let m = d.less in omega arith;
-  small = b.small;
-}
 
 pub size-got : {C : Type 0} {t r : List ℕ} (n : ℕ) (k : ℕ → List Name → Res C) → Sized n t r → size (pieces gap t) k ≡ k n (pieces gap r)
 size-got n k s = rw (s.said, s.is)

@@ -1,10 +1,10 @@
 -- Parameters and their kinds, against the model parser.
-use Rattle.std.proofs.Common.{◌≡◌, ℕ, ◌+◌, ◌≤◌, true, false, List, [], ◌∷◌, ◌++◌, length, Result, sym, refl, ap, ◌∙◌, subst, arith, Bor}
+use Rattle.std.proofs.Common.{◌≡◌, ℕ, ◌+◌, ◌≤◌, true, List, [], ◌∷◌, ◌++◌, length, Result, sym, refl, ap, ◌∙◌, subst, arith, Bor}
 use mathlib.Core.Option.{none}
-use Rattle.language.specs.Syntax.{pick, Name, same, k_word, k_arr, Param}
-use Rattle.grammar.specs.Text.{pieces, gap, t_lb, t_rb, t_rp, t_comma, t_colon}
-use Rattle.grammar.specs.Parse.{Res, fail, got, eat}
-use Rattle.grammar.specs.ParseAll.{again, par_in, par_kind, par, pars_more, pars_step, pars_of}
+use Rattle.language.specs.Syntax.{pick, Name, same, Param}
+use Rattle.grammar.specs.Text.{pieces, gap, t_rp, t_comma}
+use Rattle.grammar.specs.Parse.{Res, fail, got}
+use Rattle.grammar.specs.ParseAll.{again, par_kind, par, pars_more, pars_step, pars_of}
 use Rattle.grammar.proofs.Equations.{pars-is}
 use Rattle.rows.specs.declared.row.Row.{Row}
 use Rattle.rows.specs.Row.{Wrote}
@@ -14,26 +14,9 @@ use Rattle.rows.proofs.Writing.{wrote_none}
 use Rattle.pieces.specs.declared.refused.Refused.{Refused}
 use Rattle.pieces.specs.Seen.{ate, is_no_name, Ate, AteName}
 use Rattle.bodies.specs.Outcome.{Spent}
-use Rattle.bodies.proofs.Expressions.{bind-fail, bind-got, not_same, name-got, name-fail, eat-got}
+use Rattle.bodies.proofs.Expressions.{bind-fail, bind-got, not_same, name-got, name-fail}
 use Rattle.parser.specs.Lists.{DidList, Listed, param_row, KindIs}
 use Rattle.parser.proofs.Counting.{FarList, list_on, list_last, list_fail}
-
--- kinds
-kind_none : (s : List Name) → ate t_lb s ≡ none → par_kind s ≡ got k_word s
-kind_none [] e = refl
-kind_none (w ∷ s) e = ap (λ c. pick c (par_in s) (got k_word (w ∷ s))) (not_same w t_lb s (same w t_lb) refl e)
-
-pub kind-word : (t : List ℕ) → ate t_lb (pieces gap t) ≡ none → KindIs (par_kind (pieces gap t)) 0 t t
-kind-word t e = record { kind = k_word; is = kind_none (pieces gap t) e; told = refl; less = omega arith }
-
-pub kind-wide : {t r q : List ℕ} → Ate t_lb t r → Ate t_rb r q → KindIs (par_kind (pieces gap t)) 2 t q
-kind-wide a b = record { kind = k_arr true; is = ap par_kind a.said ∙ ap par_in b.said; told = refl; less = omega arith }
-
-in_colon : {r q : List ℕ} → Ate t_colon r q → par_in (pieces gap r) ≡ eat t_rb (pieces gap q) (λ z. got (k_arr false) z)
-in_colon a = ap par_in a.said
-
-pub kind_byte : {t r q v : List ℕ} → Ate t_lb t r → Ate t_colon r q → Ate t_rb q v → KindIs (par_kind (pieces gap t)) 1 t v
-kind_byte a b c = record { kind = k_arr false; is = ap par_kind a.said ∙ in_colon b ∙ eat-got t_rb _ c; told = refl; less = omega arith }
 
 -- parameters
 abbrev pub pars : List Name → Res (List Param)

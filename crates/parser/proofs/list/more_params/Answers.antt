@@ -1,12 +1,7 @@
 -- Proof of `more_params`.
 use Rattle.std.proofs.lemmas.Result.{MatchResult-from_err}
-use Rattle.parser.specs.Lists.{param_row}
-use Rattle.parser.proofs.Counting.{list_none}
-use Rattle.parser.proofs.Params.{pars, pars-on, pars-last, pars-stop, pars-no-kind, pars-no-name}
+use Rattle.parser.proofs.Params.{pars-on, pars-last, pars-stop, pars-no-kind, pars-no-name}
 use Rattle.parser.proofs.list.more_params.Goals as goal
-
-pub loop-x-init : goal.loop-x-init
-loop-x-init c = list_none pars param_row c.args.text.now c.args.out.now
 
 pub returns-in_err-x : goal.returns-in_err-x
 returns-in_err-x c = MatchResult-from_err c.from_residual.result _ _ c.from_residual.ensures.0 (λ y. pars-no-name c.loop-x.invariant c.in_err-x.ensures.0)
