@@ -15,7 +15,7 @@ use Rattle.pieces.specs.Seen.{level_of, op_of, piece_of, First, Nothing, ate, is
 use Rattle.rows.specs.Has as has
 use Rattle.rows.specs.Row.{Wrote}
 use Rattle.rows.specs.Nodes.{expr_row, args_row, count}
-use Rattle.bodies.specs.Outcome.{mid, post, Spent, Did, Parsed, DidArgs, Chains, ParsedChain, Marked}
+use Rattle.bodies.specs.Outcome.{mid, post, Spent, Did, Parsed, DidArgs, Marked}
 use Rattle.grammar.proofs.PieceKinds.{same_refl, Means, look-means}
 use Rattle.grammar.proofs.ExprSound.{GoMeans, go-means}
 use Rattle.grammar.proofs.ExprFuel.{reader-fixed}
@@ -58,9 +58,6 @@ length-did x a b c w = let l = w.long in record { tree = len x; is = eat-got t_l
 
 pub length-no-name : {t r : List ℕ} → Ate t_lp t r → is_no_name (pieces gap r) ≡ true → start reader [] p_len (pieces gap t) ≡ fail
 length-no-name {t} {r} a e = eat-got t_lp _ a ∙ name-fail (pieces gap r) _ e
-
-pub length_open : {t r₁ r₂ : List ℕ} (x : Name) → Ate t_lp t r₁ → AteName x r₁ r₂ → ate t_rp (pieces gap r₂) ≡ none → start reader [] p_len (pieces gap t) ≡ fail
-length_open {r₂ = r₂} x a b e = eat-got t_lp _ a ∙ name-got x _ b ∙ eat-fail t_rp (pieces gap r₂) _ e
 
 pub input-did : {t r₁ r₂ : List ℕ} {o p : Row} → Ate t_lp t r₁ → Ate t_rp r₁ r₂ → Wrote o p (11 ∷ []) → Did 0 (start reader [] p_in (pieces gap t)) (expr_row false) t r₂ o p
 unfolding expr_row
@@ -141,15 +138,6 @@ far-more {n} {s} {r} {q} {z} op f t h u d v =
       within = omega arith;
     }
 
-pub far-end : {n : ℕ} {s r : List ℕ} {o p : Row} → Far n s r o p → ((a : Expr) → reader.chain n a (pieces gap r) ≡ got a (pieces gap r)) → Chains n s r o p
-far-end f e = record { words = f.words; tree = f.tree; is = λ a. f.is a ∙ e (f.tree a); row = f.row; wrote = f.wrote; within = f.within }
-
-pub climb-by : {t r : List ℕ} {o p : Row} (q : Row) (n : ℕ) (res : Result (Bor (List ℕ)) Refused) → Did 0 (reader.one (pieces gap t)) (expr_row false) t r o p → ParsedChain n r p q res → Parsed 0 (climb reader n (pieces gap t)) (expr_row false) t o q res
-climb-by {t} {r} {o} {p} q n (Ok x) d c =
-    let a₁ = d.within in let on1 = d.on in let a₂ = c.within in
-    record { tree = c.tree d.tree; is = bind-got _ d.tree _ d.is ∙ c.is d.tree; wrote = subst (Wrote o q) (sym (c.row d.tree)) (wrote-more d.wrote c.wrote); within = omega arith; on = omega arith }
-climb-by q n (Err y) d c = bind-got _ d.tree _ d.is ∙ c d.tree
-
 -- behind a name
 after_none : (p : Piece) (w : Name) → Means p w → (w ≡ t_lp → ⊥) → (w ≡ t_lb → ⊥) → after p ≡ a_none
 after_none (p_num n) w m a b = refl
@@ -212,9 +200,6 @@ table-did {k = k} {o = o} {z = z} x a b d e f g w =
 
 pub table_bare : {t r₁ r₂ r₃ r₄ : List ℕ} {o p : Row} (x : Name) → AteName x t r₁ → Ate t_lb r₁ r₂ → Did 0 (climb reader 0 (pieces gap r₂)) (expr_row false) r₂ r₃ o p → Ate t_rb r₃ r₄ → ate t_lp (pieces gap r₄) ≡ none → start reader [] p_call (pieces gap t) ≡ fail
 table_bare {r₄ = r₄} x a b d e f = name-got x _ a ∙ eat-got t_lb _ b ∙ bind-got _ d.tree _ d.is ∙ eat-got t_rb _ e ∙ eat-fail t_lp (pieces gap r₄) _ f
-
-pub table_open : {t r : List ℕ} (x : Name) → AteName x t r → ate t_lb (pieces gap r) ≡ none → start reader [] p_call (pieces gap t) ≡ fail
-table_open {r = r} x a e = name-got x _ a ∙ eat-fail t_lb (pieces gap r) _ e
 
 -- arguments
 go-none : (g : Go) (w : Name) → GoMeans g w → (w ≡ t_comma → ⊥) → (w ≡ t_rp → ⊥) → g ≡ g_none

@@ -23,7 +23,7 @@ use Rattle.grammar.proofs.ExprComplete.{begins}
 use Rattle.grammar.proofs.Unrolling.{again_is}
 use Rattle.grammar.proofs.StmtFuel.{body_well}
 use Rattle.rows.proofs.Writing.{wrote-more, wrote_none}
-use Rattle.bodies.proofs.Expressions.{bind-fail, bind-got, eat-fail, eat-got, not_same}
+use Rattle.bodies.proofs.Expressions.{bind-fail, bind-got, eat-got, not_same}
 
 -- what was read, as part of something else
 pub did_map : {A C : Type 0} {m : Res A} {n : Res C} {row : A → List ℕ} {row' : C → List ℕ} {s t r : List ℕ} {o p : Row} (d e : ℕ) (f : A → C) → n ≡ bind m (λ a q. got (f a) q) → ((a : A) → row a ≡ row' (f a)) → length s + (1 - e) ≤ length t → d + 4 * length s ≤ e + 4 * length t → Did d m row s r o p → Did e n row' t r o p
@@ -52,15 +52,9 @@ bind-map w f (got e r) = eat-map w r e f
 pub ex-semi : (f : Expr → Stmt) (s : List Name) → ex_semi f s ≡ bind (ex_end s) (λ e r. got (f e) r)
 ex-semi f s = bind-map t_semi f (expr s)
 
-pub semi-did : {t r q : List ℕ} {o p v : Row} (tag : ℕ) → Did 0 (climb reader 0 (pieces gap t)) (expr_row false) t r o p → Ate t_semi r q → Wrote p v (tag ∷ []) → Did 0 (ex_end (pieces gap t)) (λ e. expr_row false e ++ (tag ∷ [])) t q o v
-semi-did tag d a w = let u = d.within in let l = w.long in let n = d.on in record { tree = d.tree; is = bind-got _ d.tree _ d.is ∙ eat-got t_semi _ a; wrote = wrote-more d.wrote w; within = omega arith; on = omega arith }
-
 -- a name first
 pub set_is : {t r : List ℕ} (x : Name) → Ate t_gets t r → name_st x (pieces gap t) ≡ bind (ex_end (pieces gap r)) (λ e q. got (set1 x e) q)
 set_is {t} {r} x a = ap (name_st x) a.said ∙ ex-semi (set1 x) (pieces gap r)
-
-pub set-fail : {t r : List ℕ} (x : Name) → Ate t_gets t r → ex_end (pieces gap r) ≡ fail → name_st x (pieces gap t) ≡ fail
-set-fail x a e = set_is x a ∙ bind-fail _ e
 
 pub set-did : {t r q v : List ℕ} {o p z : Row} (x : Name) → AteName x t r → Ate t_gets r q → Did 0 (ex_end (pieces gap q)) (expr_row false) q v o p → Wrote p z (12 ∷ named x) → Did 0 (name_st x (pieces gap r)) stmt_row t v o z
 unfolding stmt_row
@@ -107,11 +101,6 @@ index_ex_did {r₂ = r₂} {o = o} {v = v} {z = z} x h d a b f g c w =
       within = omega arith;
       on = omega arith;
     }
-
-pub index_ex_open : {t r₁ r₂ r₃ : List ℕ} {o p q v : Row} (x : Name) → Did 0 (climb reader 0 (pieces gap t)) (expr_row false) t r₁ o p → Ate t_rb r₁ r₂ → ate t_gets (pieces gap r₂) ≡ none → Chains 0 r₂ r₃ q v → ate t_semi (pieces gap r₃) ≡ none → index_st x (pieces gap t) ≡ fail
-index_ex_open {r₂ = r₂} {r₃ = r₃} x d a b g e =
-    let i : Expr = idx x d.tree in
-    bind-got _ d.tree _ d.is ∙ eat-got t_rb _ a ∙ store_other x d.tree (pieces gap r₂) b ∙ bind-got _ (g.tree i) _ (g.is i) ∙ eat-fail t_semi (pieces gap r₃) _ e
 
 -- bodies
 body_is : (s : List Name) → body s ≡ body_step body s

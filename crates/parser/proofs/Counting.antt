@@ -9,7 +9,8 @@ use Rattle.rows.specs.Trees.{list_row}
 use Rattle.rows.proofs.Writing.{wrote-more, wrote_none}
 use Rattle.bodies.specs.Outcome.{Spent}
 use Rattle.bodies.proofs.Expressions.{bind-fail, bind-got}
-use Rattle.parser.specs.Lists.{DidList}
+use Rattle.pieces.specs.Seen.{Ate}
+use Rattle.parser.specs.Lists.{DidList, Listable}
 use Rattle.parser.proofs.Patching.{list_row-on}
 
 -- from s the loop has come to r, past k elements: what M reads of s is what it read so far, before what it reads of r
@@ -71,3 +72,10 @@ module _ {A : Type 0} (M : List Name → Res (List A)) (row : A → List ℕ) wh
 
   pub list_fail : {s r : List ℕ} {k : ℕ} {o p : Row} → FarList M row s r k o p → M (pieces gap r) ≡ fail → M (pieces gap s) ≡ fail
   list_fail f e = f.is ∙ bind-fail _ e
+
+  -- the same by an element that is listed
+  pub listed_on : {s t r z : List ℕ} {k n : ℕ} {o p v : Row} (x : A) → FarList M row s t k o p → Listable n M row x t r → Ate (44 ∷ []) r z → Wrote p v (row x) → FarList M row s z (k + 1) o v
+  listed_on {z = z} x f e a w = let i = e.less in let j = e.room in let l = a.less in let m = w.long in list_on x f (e.more z a) w (omega arith) (omega arith)
+
+  pub listed_last : {s t r q : List ℕ} {k n : ℕ} {o p v : Row} (x : A) → length s ≤ 32768 → FarList M row s t k o p → Listable n M row x t r → Ate (n ∷ []) r q → Wrote p v (row x) → DidList 0 (M (pieces gap s)) row s q (k + 1) o v
+  listed_last {q = q} x b f e a w = let i = e.less in let j = e.room in let l = a.less in let m = w.long in list_last x b f (e.last q a) w (omega arith) (omega arith)

@@ -1,5 +1,5 @@
 -- Lists of names, of numbers, of variables and of arrays, against the model parser.
-use Rattle.std.proofs.Common.{◌≡◌, ℕ, ◌+◌, ◌≤◌, Bool, true, false, not, List, [], ◌∷◌, ◌++◌, length, Ok, Err, Result, refl, ap, ◌∙◌, subst, arith, Bor}
+use Rattle.std.proofs.Common.{◌≡◌, ℕ, ◌+◌, ◌≤◌, Bool, true, false, not, List, [], ◌∷◌, ◌++◌, length, Ok, Err, Result, MatchResult, refl, ap, ◌∙◌, subst, arith, Bor}
 use mathlib.Core.Option.{Option, some, none}
 use Rattle.language.specs.Syntax.{pick, opt, Name, same, k_arr, Arr}
 use Rattle.grammar.specs.Text.{pieces, gap, is_name, t_semi, t_comma, t_lb, t_rb, k_array, k_bytes, k_var}
@@ -13,10 +13,11 @@ use Rattle.rows.specs.Nodes.{num_row}
 use Rattle.rows.specs.Trees.{kind_no, list_row}
 use Rattle.rows.proofs.Writing.{wrote_none}
 use Rattle.pieces.specs.declared.refused.Refused.{Refused}
+use Rattle.pieces.specs.Refusing.{Left}
 use Rattle.pieces.specs.Seen.{ate, is_no_name, Ate, AteName, no_num, AteNum, no_text, AteText}
 use Rattle.bodies.specs.Outcome.{Spent, Did}
 use Rattle.bodies.proofs.Expressions.{bind-fail, bind-got, not_same, name-got, name-fail, eat-got, eat-fail}
-use Rattle.parser.specs.Lists.{DidList, Listed, name_row, array_row, Sized, quoted_in}
+use Rattle.parser.specs.Lists.{DidList, Listed, Listable, name_row, array_row, Sized, quoted_in}
 use Rattle.parser.proofs.Patching.{text_long}
 use Rattle.parser.proofs.Counting.{FarList, list_on, list_fail}
 
@@ -51,8 +52,18 @@ name-long : (l : Bool) (x : Name) → length (name_row l x) ≤ length x + 4
 name-long true x = omega arith
 name-long false x = omega arith
 
-pub name-spent : {t r q : List ℕ} {o p : Row} (l : Bool) (x y : Name) → AteName x t r → Ate y r q → 1 ≤ length y → Wrote o p (name_row l x) → Spent 0 t q o p
-name-spent l x y a b h w = let n = name-long l x in let m = w.long in let i = a.less in let j = a.some in let k = b.less in omega arith
+pub name_listable : {t r : List ℕ} (l : Bool) (x : Name) → AteName x t r → Listable 59 names_in (name_row l) x t r
+name_listable l x a = record {
+  last = λ q b. names-semi x a b;
+  more = λ q b. names_comma x a b;
+  stop = names-stop x a;
+  less = let i = a.less in let j = a.some in omega arith;
+  room = let n = name-long l x in let i = a.less in let j = a.some in omega arith;
+}
+
+pub names_read : (l : Bool) (t : List ℕ) (res : Result (Bor (List ℕ) × Bor (List ℕ)) Refused) → MatchResult res (λ p. AteName p.0.now t p.1.now) (λ e. (is_no_name (pieces gap t) ≡ true) × Left t e.left) → MatchResult res (λ p. Listable 59 names_in (name_row l) p.0.now t p.1.now × (length p.0.now ≤ 32)) (λ _. names_in (pieces gap t) ≡ fail)
+names_read l t (Ok p) a = (name_listable l p.0.now a, a.short)
+names_read l t (Err e) a = names-no (pieces gap t) a.0
 
 -- numbers
 pub nums_comma : {t r q : List ℕ} (n : ℕ) → AteNum n t r → Ate t_comma r q → nums_in (pieces gap t) ≡ bind (nums_in (pieces gap q)) (λ ns z. got (n ∷ ns) z)
@@ -72,20 +83,8 @@ pub opt-no : {A C : Type 0} (o : Option A) (k : A → Res C) → opt o true (λ 
 opt-no none k f = refl
 opt-no (some n) k f = let y : ◌≡◌ {A = ℕ} 0 1 = cc in absurd (omega arith)
 
-pub nums-no : (s : List Name) → no_num s ≡ true → nums_in s ≡ fail
-nums-no [] e = refl
-nums-no (x ∷ []) e = refl
-nums-no (x ∷ w ∷ s) e = opt-no (num_of x) _ e
-
 pub num-spent : {t r q : List ℕ} {o p : Row} (n : ℕ) (y : Name) → AteNum n t r → Ate y r q → Wrote o p (num_row n) → Spent 0 t q o p
 num-spent n y a b w = let l = w.long in let i = a.less in let k = b.less in omega arith
-
-pub num-fail : {C : Type 0} (s : List Name) (k : ℕ → List Name → Res C) → no_num s ≡ true → eat_num s k ≡ fail
-num-fail [] k e = refl
-num-fail (w ∷ s) k e = opt-no (num_of w) (λ n. k n s) e
-
-pub num-got : {C : Type 0} {t r : List ℕ} (n : ℕ) (k : ℕ → List Name → Res C) → AteNum n t r → eat_num (pieces gap t) k ≡ k n (pieces gap r)
-num-got n k a = rw (a.said, a.is)
 
 -- variables
 vars-rest : (s : List Name) → ate k_var s ≡ none → vars_in s ≡ got [] s
@@ -103,16 +102,6 @@ vars-some o p (Ok x) a d =
     let l = a.less in let u = d.did.within in let v = d.did.on in
     record { did = record { tree = d.did.tree; is = vars-is a ∙ d.did.is; wrote = d.did.wrote; within = omega arith; on = omega arith }; num = d.num; few = d.few }
 vars-some o p (Err y) a d = vars-is a ∙ d
-
--- a size in brackets: what goes on behind it, and that nothing does where there is none
-pub size-did : {t r₁ r₂ r₃ r₄ : List ℕ} (n : ℕ) → Ate t_lb t r₁ → AteNum n r₁ r₂ → Ate t_rb r₂ r₃ → Ate t_semi r₃ r₄ → Sized n t r₄
-size-did n a b c d = record {
-  word = b.word;
-  said = a.said ∙ ap (λ l. t_lb ∷ l) (b.said ∙ ap (λ l. b.word ∷ l) (c.said ∙ ap (λ l. t_rb ∷ l) d.said));
-  is = b.is;
-  less = let i = a.less in let j = b.less in let l = c.less in let m = d.less in omega arith;
-  small = b.small;
-}
 
 pub size-got : {C : Type 0} {t r : List ℕ} (n : ℕ) (k : ℕ → List Name → Res C) → Sized n t r → size (pieces gap t) k ≡ k n (pieces gap r)
 size-got n k s = rw (s.said, s.is)

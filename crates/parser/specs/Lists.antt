@@ -1,15 +1,18 @@
 -- What the code that reads lists answers: the list, its row, and how many there are. Rests on Outcome (bodies) and on the rows of trees.
-use Rattle.std.specs.Prelude.{◌≡◌, ℕ, ◌+◌, ◌<◌, ◌≤◌, Bool, List, [], ◌∷◌, length, Result, MatchResult}
+use Rattle.std.specs.Prelude.{◌≡◌, ℕ, ◌+◌, ◌*◌, ◌<◌, ◌≤◌, List, [], ◌∷◌, length, Bool, true, false, Result, MatchResult}
 use Rattle.std.specs.Borrow.{Bor}
-use Rattle.std.proofs.Math.Option.{some}
-use Rattle.language.specs.Syntax.{pick, opt, Name, Kind, Param, Arr}
+use Rattle.std.proofs.Math.Option.{some, none}
+use Rattle.language.specs.Syntax.{pick, opt, Name, Kind, k_word, k_arr, Param, Arr}
 use Rattle.grammar.specs.Text.{pieces, gap, t_lb, t_rb, t_semi}
-use Rattle.grammar.specs.Parse.{Res, fail, got, eat, num_of}
+use Rattle.grammar.specs.Parse.{Res, fail, got, bind, eat, num_of}
 use Rattle.grammar.specs.ParseAll.{nums_in, in_quotes}
 use Rattle.rows.specs.declared.row.Row.{Row}
+use Rattle.rows.specs.declared.kind.LocalKind.{LocalKind}
+use Rattle.rows.specs.declared.kind.LocalKind.TheVariants.{Word, Bytes, Words}
 use Rattle.rows.specs.Has.{named}
-use Rattle.rows.specs.Trees.{list_row, local_row, kind_no, of_param, of_var, of_array}
+use Rattle.rows.specs.Trees.{list_row, local_row, of_param, of_var, of_array}
 use Rattle.pieces.specs.declared.refused.Refused.{Refused}
+use Rattle.pieces.specs.Seen.{ate, Ate}
 use Rattle.bodies.specs.Outcome.{Did}
 
 -- a list, with how many there are in it
@@ -31,11 +34,14 @@ array_row a = local_row (of_array a)
 abbrev pub name_row : Bool → Name → List ℕ
 name_row local x = pick local (local_row (of_var x)) (named x)
 
--- a parameter's kind, by its number
-pub record KindIs (m : Res Kind) (k : ℕ) (t r : List ℕ) : Type 0 where
-  pub kind : Kind
-  pub is : m ≡ got kind (pieces gap r)
-  pub told : kind_no kind ≡ k
+-- a parameter's kind, as code has it
+abbrev pub kind_of : LocalKind → Kind
+kind_of Word = k_word
+kind_of Bytes = k_arr false
+kind_of Words = k_arr true
+
+pub record KindIs (m : Res Kind) (k : LocalKind) (t r : List ℕ) : Type 0 where
+  pub is : m ≡ got (kind_of k) (pieces gap r)
   pub less : length r ≤ length t
 
 -- a size in brackets, and a semicolon
@@ -53,3 +59,11 @@ quoted_in (q ∷ s) = opt (in_quotes q) fail (λ ns. eat t_semi s (λ r. got ns 
 
 abbrev pub values_in : Bool → List Name → Res (List ℕ)
 values_in wide s = pick wide (nums_in s) (quoted_in s)
+
+-- an element of a list that M reads, with what stands behind it: the sign that ends the list, a comma and more of the list, or neither
+pub record Listable {A : Type 0} (end : ℕ) (M : List Name → Res (List A)) (row : A → List ℕ) (x : A) (t r : List ℕ) : Type 0 where
+  pub last : (q : List ℕ) → Ate (end ∷ []) r q → M (pieces gap t) ≡ got (x ∷ []) (pieces gap q)
+  pub more : (q : List ℕ) → Ate (44 ∷ []) r q → M (pieces gap t) ≡ bind (M (pieces gap q)) (λ xs z. got (x ∷ xs) z)
+  pub stop : ate (end ∷ []) (pieces gap r) ≡ none → ate (44 ∷ []) (pieces gap r) ≡ none → M (pieces gap t) ≡ fail
+  pub less : length r + 1 ≤ length t
+  pub room : length (row x) + 4 * length r ≤ 4 * length t + 4

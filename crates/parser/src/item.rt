@@ -8,7 +8,8 @@ ghost use Rattle.rows.specs.Trees.{item_row};
 ghost use Rattle.bodies.specs.Outcome.{Ready, Parsed};
 ghost use Rattle.parser.specs.Programs.{array_head, sized_in, data_in, listed_in};
 
-use super::list::{arrays_of, names_to, params_of, size_of, values_to, vars_of};
+use super::element::list_of;
+use super::list::{Names, arrays_of, params_of, size_of, values_to, vars_of};
 use super::put::{close_item, open_item};
 use bodies::{body, put_num};
 use pieces::eating::{eat, eat_word, expect, expect_name};
@@ -91,7 +92,7 @@ fn listed<'a>(text: &'a [u8], used: bool, x: &[u8], out: &mut Row) -> Result<&'a
     open_item(out, list_kind(used), x);
     let at = out.len;
     out.put(0);
-    let (count, rest) = names_to(text, false, out)?;
+    let (count, rest) = list_of(text, Names { local: false }, out)?;
     out.set(at, count);
     close_item(out, start);
     Ok(rest)

@@ -1,15 +1,17 @@
 // Lists of names, of numbers, of parameters and of arrays: each is read up to its end, and counted.
-ghost use Rattle.std.specs.Prelude.{◌≡◌, ◌+◌, true, MatchResult};
-ghost use Rattle.language.specs.Syntax.{k_arr};
+ghost use Rattle.std.specs.Prelude.{◌≡◌, ℕ, ◌+◌, ◌≤◌, true, length, MatchResult};
+ghost use Rattle.language.specs.Syntax.{Name, k_arr, Param};
 ghost use Rattle.grammar.specs.Text.{pieces, gap};
 ghost use Rattle.grammar.specs.Parse.{fail, got};
 ghost use Rattle.grammar.specs.ParseAll.{size, names_in, nums_in, arr, arrs_step, again, par_kind, pars_step, pars_of, vars_in};
 ghost use Rattle.rows.specs.Kinds.{local_kind_no};
 ghost use Rattle.rows.specs.Nodes.{num_row};
 ghost use Rattle.rows.specs.Trees.{kind_no};
+ghost use Rattle.pieces.specs.Seen.{Signy};
 ghost use Rattle.bodies.specs.Outcome.{Ready, Parsed};
-ghost use Rattle.parser.specs.Lists.{Sized, quoted_in, values_in, Listed, name_row, array_row, param_row, KindIs};
+ghost use Rattle.parser.specs.Lists.{Sized, quoted_in, values_in, Listed, name_row, array_row, param_row, kind_of, KindIs};
 
+use super::element::{Element, list_of};
 use super::put::{put_listed, put_local, put_text};
 use bodies::put_num;
 use pieces::eating::{eat, eat_word, expect, expect_name, expect_num, expect_text};
@@ -18,47 +20,75 @@ use pieces::words;
 use rows::kind::LocalKind;
 use rows::row::Row;
 
-// Names with commas between, up to a semicolon and with it.
-pub fn names_to<'a>(text: &'a [u8], local: bool, out: &mut Row) -> Result<(u32, &'a [u8]), Refused>
-    requires ready { Ready 0 text.now out.old }
-    ensures { Listed 0 (names_in (pieces gap text.now)) (name_row local) text.now out.old out.new result }
-{
-    let mut rest = text;
-    let mut count = 0;
-    loop {
-        let (x, behind) = expect_name(rest)?;
-        if let Some(after) = eat(behind, b';') {
-            put_listed(out, local, x);
-            return Ok((count + 1, after));
-        }
-        let Some(after) = eat(behind, b',') else {
-            return Err(refuse(behind, Reason::Expected(b';')));
-        };
-        put_listed(out, local, x);
-        count += 1;
-        rest = after;
+// Names, up to a semicolon: a function's variables, or names alone.
+#[derive(Clone, Copy)]
+pub struct Names {
+    pub local: bool,
+}
+
+impl<'a> Element<'a> for Names {
+    type Value = &'a [u8];
+
+    ghost Tree = { Name };
+
+    ghost tree = { λ s v. v.now };
+
+    ghost words = { λ s. name_row s.local };
+
+    ghost can_put = { λ s v. length v.now ≤ 32 };
+
+    ghost list = { λ s. names_in };
+
+    ghost last = { 59 };
+
+    fn read(self, text: &'a [u8]) -> Result<(&'a [u8], &'a [u8]), Refused> {
+        expect_name(text)
+    }
+
+    fn put(self, value: &'a [u8], out: &mut Row) {
+        put_listed(out, self.local, value);
+    }
+
+    fn end(self) -> u8
+        ensures is { result ≡ 59 }
+        ensures signy { Signy result }
+    {
+        b';'
     }
 }
 
-// Numbers with commas between, up to a semicolon and with it.
-fn nums_to<'a>(text: &'a [u8], out: &mut Row) -> Result<(u32, &'a [u8]), Refused>
-    requires ready { Ready 0 text.now out.old }
-    ensures { Listed 0 (nums_in (pieces gap text.now)) num_row text.now out.old out.new result }
-{
-    let mut rest = text;
-    let mut count = 0;
-    loop {
-        let (n, behind) = expect_num(rest)?;
-        if let Some(after) = eat(behind, b';') {
-            put_num(out, n);
-            return Ok((count + 1, after));
-        }
-        let Some(after) = eat(behind, b',') else {
-            return Err(refuse(behind, Reason::Expected(b';')));
-        };
-        put_num(out, n);
-        count += 1;
-        rest = after;
+// Numbers, up to a semicolon.
+#[derive(Clone, Copy)]
+pub struct Numbers;
+
+impl<'a> Element<'a> for Numbers {
+    type Value = u64;
+
+    ghost Tree = { ℕ };
+
+    ghost tree = { λ s v. v };
+
+    ghost words = { λ s. num_row };
+
+    ghost can_put = { λ s v. Unit {0} };
+
+    ghost list = { λ s. nums_in };
+
+    ghost last = { 59 };
+
+    fn read(self, text: &'a [u8]) -> Result<(u64, &'a [u8]), Refused> {
+        expect_num(text)
+    }
+
+    fn put(self, value: u64, out: &mut Row) {
+        put_num(out, value);
+    }
+
+    fn end(self) -> u8
+        ensures is { result ≡ 59 }
+        ensures signy { Signy result }
+    {
+        b';'
     }
 }
 
@@ -79,7 +109,7 @@ pub fn values_to<'a>(text: &'a [u8], wide: bool, out: &mut Row) -> Result<(u32, 
     ensures { Listed 0 (values_in wide (pieces gap text.now)) num_row text.now out.old out.new result }
 {
     if wide {
-        nums_to(text, out)
+        list_of(text, Numbers, out)
     } else {
         text_to(text, out)
     }
@@ -87,7 +117,7 @@ pub fn values_to<'a>(text: &'a [u8], wide: bool, out: &mut Row) -> Result<(u32, 
 
 // What stands behind a parameter's name: nothing, or brackets.
 fn param_kind<'a>(text: &'a [u8]) -> Result<(LocalKind, &'a [u8]), Refused>
-    ensures { MatchResult result (λ p. KindIs (par_kind (pieces gap text.now)) (local_kind_no p.0) text.now p.1.now) (λ _. par_kind (pieces gap text.now) ≡ fail) }
+    ensures { MatchResult result (λ p. KindIs (par_kind (pieces gap text.now)) p.0 text.now p.1.now) (λ _. par_kind (pieces gap text.now) ≡ fail) }
 {
     let Some(rest) = eat(text, b'[') else {
         return Ok((LocalKind::Word, text));
@@ -102,26 +132,41 @@ fn param_kind<'a>(text: &'a [u8]) -> Result<(LocalKind, &'a [u8]), Refused>
     Ok((LocalKind::Bytes, rest))
 }
 
-// Parameters, one at least, up to the bracket and with it.
-fn more_params<'a>(text: &'a [u8], out: &mut Row) -> Result<(u32, &'a [u8]), Refused>
-    requires ready { Ready 0 text.now out.old }
-    ensures { Listed 0 (again pars_step (pieces gap text.now)) param_row text.now out.old out.new result }
-{
-    let mut rest = text;
-    let mut count = 0;
-    loop {
-        let (x, behind) = expect_name(rest)?;
-        let (kind, behind) = param_kind(behind)?;
-        if let Some(after) = eat(behind, b')') {
-            put_local(out, kind, 0, x);
-            return Ok((count + 1, after));
-        }
-        let Some(after) = eat(behind, b',') else {
-            return Err(refuse(behind, Reason::Expected(b')')));
-        };
+// Parameters, up to a bracket.
+#[derive(Clone, Copy)]
+struct Params;
+
+impl<'a> Element<'a> for Params {
+    type Value = (LocalKind, &'a [u8]);
+
+    ghost Tree = { Param };
+
+    ghost tree = { λ s v. record { name = v.1.now; kind = kind_of v.0 } };
+
+    ghost words = { λ s. param_row };
+
+    ghost can_put = { λ s v. length v.1.now ≤ 32 };
+
+    ghost list = { λ s. again pars_step };
+
+    ghost last = { 41 };
+
+    fn read(self, text: &'a [u8]) -> Result<((LocalKind, &'a [u8]), &'a [u8]), Refused> {
+        let (x, rest) = expect_name(text)?;
+        let (kind, rest) = param_kind(rest)?;
+        Ok(((kind, x), rest))
+    }
+
+    fn put(self, value: (LocalKind, &'a [u8]), out: &mut Row) {
+        let (kind, x) = value;
         put_local(out, kind, 0, x);
-        count += 1;
-        rest = after;
+    }
+
+    fn end(self) -> u8
+        ensures is { result ≡ 41 }
+        ensures signy { Signy result }
+    {
+        b')'
     }
 }
 
@@ -133,7 +178,7 @@ pub fn params_of<'a>(text: &'a [u8], out: &mut Row) -> Result<(u32, &'a [u8]), R
     if let Some(rest) = eat(text, b')') {
         return Ok((0, rest));
     }
-    more_params(text, out)
+    list_of(text, Params, out)
 }
 
 // The variables of a function.
@@ -144,7 +189,7 @@ pub fn vars_of<'a>(text: &'a [u8], out: &mut Row) -> Result<(u32, &'a [u8]), Ref
     let Some(rest) = eat_word(text, words::VAR) else {
         return Ok((0, text));
     };
-    names_to(rest, true, out)
+    list_of(rest, Names { local: true }, out)
 }
 
 fn array_kind(wide: bool) -> LocalKind

@@ -46,7 +46,7 @@ pub fn put_local(out: &mut Row, kind: LocalKind, size: u64, x: &[u8])
 
 // A name of a list: a function's variable, or the name alone.
 pub fn put_listed(out: &mut Row, local: bool, x: &[u8])
-    requires room { out.old.len + (length x.now + 4) ≤ length out.old.words.now }
+    requires room { out.old.len + length (name_row local x.now) ≤ length out.old.words.now }
     requires short { length x.now ≤ 32 }
     ensures { Wrote out.old out.new (name_row local x.now) }
 {

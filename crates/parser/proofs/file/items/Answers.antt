@@ -1,12 +1,9 @@
 -- Proof of `items`.
 use Rattle.std.proofs.lemmas.Result.{MatchResult-from_err}
 use Rattle.rows.specs.Trees.{item_row}
-use Rattle.parser.proofs.Counting.{list_none, list_done}
+use Rattle.parser.proofs.Counting.{list_done}
 use Rattle.parser.proofs.Files.{its, its-end, its-file, its-on, its-fail}
 use Rattle.parser.proofs.file.items.Goals as goal
-
-pub loop-rest-init : goal.loop-rest-init
-loop-rest-init c = list_none its item_row c.args.text.now c.args.out.now
 
 pub returns-then-at_end : goal.returns-then-at_end
 returns-then-at_end c = list_done its item_row c.requires.ready.short c.loop-rest.invariant (its-end c.loop-rest.rest.now c.if-at_end.ensures)

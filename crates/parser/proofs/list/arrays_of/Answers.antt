@@ -3,12 +3,9 @@ use Rattle.std.proofs.Common.{true, false}
 use Rattle.std.proofs.lemmas.Result.{MatchResult-from_err}
 use Rattle.grammar.specs.Text.{k_array, k_bytes}
 use Rattle.parser.specs.Lists.{array_row}
-use Rattle.parser.proofs.Counting.{list_none, list_done}
+use Rattle.parser.proofs.Counting.{list_done}
 use Rattle.parser.proofs.Listing.{arrs, arrs-wide, arrs_byte, arrs-end, arrs-on, arrs-fail}
 use Rattle.parser.proofs.list.arrays_of.Goals as goal
-
-pub loop-behind-init : goal.loop-behind-init
-loop-behind-init c = list_none arrs array_row c.args.text.now c.args.out.now
 
 pub loop-behind-preserved-in-Some : goal.loop-behind-preserved-in-Some
 loop-behind-preserved-in-Some c = arrs-on k_array true c.loop-behind.invariant c.in-Some.ensures (arrs-wide c.in-Some.ensures) c.in_ok-rest.ensures

@@ -6,4 +6,4 @@ pub returns-in-Some : goal.returns-in-Some
 returns-in-Some c = params_none c.args.out.now c.in-Some.ensures
 
 pub returns : goal.returns
-returns c = params_some c.args.text.now c.args.out.now c.more_params.new.out c.more_params.result c.in_default.ensures c.more_params.ensures
+returns c = params_some c.args.text.now c.args.out.now c.list_of.new.out c.list_of.result c.in_default.ensures c.list_of.ensures
