@@ -1,5 +1,5 @@
 -- The nodes by what the code does with them: two sorts of calls, names with a value, the rest.
-use Rattle.std.proofs.Common.{◌≡◌, ℕ, ◌+◌, ◌%◌, ◌<◌, min, true, false, List, [], ◌∷◌, length, get_or, sym, refl, ap, ◌∙◌, subst, ap₂, arith}
+use Rattle.std.proofs.Common.{◌≡◌, ne_eqb, Bool, ◌||◌, ℕ, ◌+◌, ◌%◌, ◌<◌, min, true, false, List, [], ◌∷◌, length, get_or, sym, refl, ap, ◌∙◌, subst, ap₂, arith}
 use mathlib.Core.Bool.{false≢true}
 use Rattle.language.specs.Syntax.{pick, Name, Fn, Prog}
 use Rattle.language.specs.Meaning.{as_fn, as_table}
@@ -15,11 +15,13 @@ use Rattle.names.specs.Refer.{meant}
 use Rattle.names.proofs.NodeEffects.{tag_of}
 use Rattle.names.proofs.BodyNodes.{node-long}
 use Rattle.names.proofs.Referents.{generated}
-use Rattle.resolver.specs.declared.words.NodeWords.{NodeWords}
 use Rattle.resolver.specs.Sound.{Sound, Known, Checked}
-use Rattle.resolver.specs.Stands.{Fits, named_by, is_value_name, plain_tag_of, has_value, three}
+use Rattle.resolver.specs.Stands.{is_call, Fits, named_by, is_value_name, plain_tag_of, has_value}
 use Rattle.resolver.proofs.Meanings.{read_is, pass-is, set_is, array-is}
 use Rattle.resolver.proofs.Bounds.{meant_fits, number_fits}
+
+pub no_call : {n : ℕ} → (n ≡ 9 → ⊥) → (n ≡ 10 → ⊥) → is_call n ≡ false
+no_call {n} n9 n10 = ap₂ (λ (a b : Bool). a || b) (ne_eqb n 9 n9) (ne_eqb n 10 n10)
 
 pub data Sort (p : Prog) (f : Name) (Γ : Scope) : Node → Type 0 where
   a_call : (n : ℕ) (x : Name) → Sort p f Γ (n_call n x)
@@ -68,11 +70,11 @@ module _ {w : List ℕ} {i s u : ℕ} (p : Prog) (f : Name) (g : Fn) (small : le
   at_third : {a b c : ℕ} {ws : List ℕ} → Has w i (a ∷ b ∷ c ∷ ws) → Has w u (c ∷ ws)
   at_third h = let h2 = has-next (has-next h) in has_to (omega (arith, h2.inside, third)) h2
 
-  pub call_words_are : {v : NodeWords} {m n : ℕ} (t : Node) → Sound w p → Has w i (node_row t) → Checked p f t → tag_of t ≡ 9 → n ≡ get_or w s 0 → n < 4294967296 → ((x : Name) → Has w u (named x) → Known p f x → m ≡ fn_no p f x) → (m < 4294967296 → n < 4294967296 → three v ≡ (12 ∷ m ∷ n ∷ [])) → three v ≡ node_words (resolve_node (own_scope p f g) t)
+  pub call_words_are : {v : List ℕ} {m n : ℕ} (t : Node) → Sound w p → Has w i (node_row t) → Checked p f t → tag_of t ≡ 9 → n ≡ get_or w s 0 → n < 4294967296 → ((x : Name) → Has w u (named x) → Known p f x → m ≡ fn_no p f x) → (m < 4294967296 → n < 4294967296 → v ≡ (12 ∷ m ∷ n ∷ [])) → v ≡ node_words (resolve_node (own_scope p f g) t)
   unfolding tag_of
   call_words_are {v} {m} {n} t so h k e rd ln it to = go (sort_of p f (own_scope p f g) t) h k e
     where
-      go : {t : Node} → Sort p f (own_scope p f g) t → Has w i (node_row t) → Checked p f t → tag_of t ≡ 9 → three v ≡ node_words (resolve_node (own_scope p f g) t)
+      go : {t : Node} → Sort p f (own_scope p f g) t → Has w i (node_row t) → Checked p f t → tag_of t ≡ 9 → v ≡ node_words (resolve_node (own_scope p f g) t)
       go (a_call c x) h k e =
           let em = it x (at_third h) k in
           let en : n ≡ c = rd ∙ has_word (at_second h) in
@@ -81,11 +83,11 @@ module _ {w : List ℕ} {i s u : ℕ} (p : Prog) (f : Name) (g : Fn) (small : le
       go (a_name t x n9 n10 b r q) h k e = absurd (n9 e)
       go (a_plain t n9 n10 b q) h k e = absurd (n9 e)
 
-  pub table_words_are : {v : NodeWords} {m n : ℕ} (t : Node) → Sound w p → Has w i (node_row t) → Checked p f t → tag_of t ≡ 10 → n ≡ get_or w s 0 → n < 4294967296 → ((x : Name) → Has w u (named x) → Known p f x → m ≡ number as_table p f x) → (m < 4294967296 → n < 4294967296 → three v ≡ (13 ∷ m ∷ n ∷ [])) → three v ≡ node_words (resolve_node (own_scope p f g) t)
+  pub table_words_are : {v : List ℕ} {m n : ℕ} (t : Node) → Sound w p → Has w i (node_row t) → Checked p f t → tag_of t ≡ 10 → n ≡ get_or w s 0 → n < 4294967296 → ((x : Name) → Has w u (named x) → Known p f x → m ≡ number as_table p f x) → (m < 4294967296 → n < 4294967296 → v ≡ (13 ∷ m ∷ n ∷ [])) → v ≡ node_words (resolve_node (own_scope p f g) t)
   unfolding tag_of
   table_words_are {v} {m} {n} t so h k e rd ln it to = go (sort_of p f (own_scope p f g) t) h k e
     where
-      go : {t : Node} → Sort p f (own_scope p f g) t → Has w i (node_row t) → Checked p f t → tag_of t ≡ 10 → three v ≡ node_words (resolve_node (own_scope p f g) t)
+      go : {t : Node} → Sort p f (own_scope p f g) t → Has w i (node_row t) → Checked p f t → tag_of t ≡ 10 → v ≡ node_words (resolve_node (own_scope p f g) t)
       go (a_call c x) h k e = absurd (omega arith)
       go (a_table c x) h k e =
           let em = it x (at_third h) k in
@@ -94,11 +96,11 @@ module _ {w : List ℕ} {i s u : ℕ} (p : Prog) (f : Name) (g : Fn) (small : le
       go (a_name t x n9 n10 b r q) h k e = absurd (n10 e)
       go (a_plain t n9 n10 b q) h k e = absurd (n10 e)
 
-  pub named_words_are : {v : NodeWords} {r : found.Reference} (t : Node) → Sound w p → ok_fn p f g ≡ true → Has w i (node_row t) → is_value_name (tag_of t) ≡ true → ((x : Name) → Has w s (named x) → r ≡ meant (own_scope p f g) x) → (Fits r → three v ≡ node_words (named_by (tag_of t) r)) → three v ≡ node_words (resolve_node (own_scope p f g) t)
+  pub named_words_are : {v : List ℕ} {r : found.Reference} (t : Node) → Sound w p → ok_fn p f g ≡ true → Has w i (node_row t) → is_value_name (tag_of t) ≡ true → ((x : Name) → Has w s (named x) → r ≡ meant (own_scope p f g) x) → (Fits r → v ≡ node_words (named_by (tag_of t) r)) → v ≡ node_words (resolve_node (own_scope p f g) t)
   unfolding tag_of
   named_words_are {v} {r} t so ok h e it to = go (sort_of p f (own_scope p f g) t) h e to
     where
-      go : {t : Node} → Sort p f (own_scope p f g) t → Has w i (node_row t) → is_value_name (tag_of t) ≡ true → (Fits r → three v ≡ node_words (named_by (tag_of t) r)) → three v ≡ node_words (resolve_node (own_scope p f g) t)
+      go : {t : Node} → Sort p f (own_scope p f g) t → Has w i (node_row t) → is_value_name (tag_of t) ≡ true → (Fits r → v ≡ node_words (named_by (tag_of t) r)) → v ≡ node_words (resolve_node (own_scope p f g) t)
       go (a_call c x) h e to = absurd (false≢true e)
       go (a_table c x) h e to = absurd (false≢true e)
       go (a_name t x n9 n10 b q z) h e to =
@@ -106,11 +108,11 @@ module _ {w : List ℕ} {i s u : ℕ} (p : Prog) (f : Name) (g : Fn) (small : le
           to (subst Fits (sym er) (meant_fits f g x so ok)) ∙ ap (λ (y : found.Reference). node_words (named_by (tag_of t) y)) er ∙ ap node_words (sym z)
       go (a_plain t n9 n10 b q) h e to = absurd (false≢true (sym b ∙ e))
 
-  pub plain_words_are : {v : NodeWords} {n : ℕ} (t : Node) → Has w i (node_row t) → Checked p f t → (tag_of t ≡ 9 → ⊥) → (tag_of t ≡ 10 → ⊥) → is_value_name (tag_of t) ≡ false → n ≡ get_or w s 0 → n < 4294967296 → (n < 4294967296 → three v ≡ (plain_tag_of (tag_of t) ∷ pick (has_value (tag_of t)) n 0 ∷ 0 ∷ [])) → three v ≡ node_words (resolve_node (own_scope p f g) t)
+  pub plain_words_are : {v : List ℕ} {n : ℕ} (t : Node) → Has w i (node_row t) → Checked p f t → (tag_of t ≡ 9 → ⊥) → (tag_of t ≡ 10 → ⊥) → is_value_name (tag_of t) ≡ false → n ≡ get_or w s 0 → n < 4294967296 → (n < 4294967296 → v ≡ (plain_tag_of (tag_of t) ∷ pick (has_value (tag_of t)) n 0 ∷ 0 ∷ [])) → v ≡ node_words (resolve_node (own_scope p f g) t)
   unfolding tag_of
   plain_words_are {v} {n} t h k n9 n10 e rd ln to = go (sort_of p f (own_scope p f g) t) h k n9 n10 e to
     where
-      go : {t : Node} → Sort p f (own_scope p f g) t → Has w i (node_row t) → Checked p f t → (tag_of t ≡ 9 → ⊥) → (tag_of t ≡ 10 → ⊥) → is_value_name (tag_of t) ≡ false → (n < 4294967296 → three v ≡ (plain_tag_of (tag_of t) ∷ pick (has_value (tag_of t)) n 0 ∷ 0 ∷ [])) → three v ≡ node_words (resolve_node (own_scope p f g) t)
+      go : {t : Node} → Sort p f (own_scope p f g) t → Has w i (node_row t) → Checked p f t → (tag_of t ≡ 9 → ⊥) → (tag_of t ≡ 10 → ⊥) → is_value_name (tag_of t) ≡ false → (n < 4294967296 → v ≡ (plain_tag_of (tag_of t) ∷ pick (has_value (tag_of t)) n 0 ∷ 0 ∷ [])) → v ≡ node_words (resolve_node (own_scope p f g) t)
       go (a_call c x) h k n9 n10 e to = absurd (n9 refl)
       go (a_table c x) h k n9 n10 e to = absurd (n10 refl)
       go (a_name t x m9 m10 b q z) h k n9 n10 e to = absurd (false≢true (sym e ∙ b))

@@ -40,8 +40,7 @@ pub fn push_nodes(row: &[u32], file: usize, item: usize, place: usize, count: us
     let mut node = place;
     let mut n = 0;
     while n < count {
-        let v = resolved_node(row, file, item, node);
-        out.push3(v.tag, v.first, v.second);
+        out.push_all(&<[u32; 3]>::from(resolved_node(row, file, item, node)));
         node = past_node(row, node);
         n += 1;
     }

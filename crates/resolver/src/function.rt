@@ -71,8 +71,7 @@ fn push_arrays(row: &[u32], place: usize, n: usize, out: &mut Row)
     while k < n {
         let kind = at(row, at_entry);
         let size = at(row, at_entry.saturating_add(1));
-        out.push(word(kind.saturating_sub(1)));
-        out.push(word(size));
+        out.push_all(&[word(kind.saturating_sub(1)), word(size)]);
         at_entry = past_name(row, at_entry.saturating_add(3));
         k += 1;
     }
@@ -88,13 +87,13 @@ pub fn push_function(row: &[u32], file: usize, item: usize, out: &mut Row)
     let arrays = head.params.saturating_sub(words);
     let body = body_of(row, item);
     let nodes = count_nodes(row, body);
-    out.push5(
+    out.push_all(&[
         word(words),
         word(arrays),
         word(head.vars),
         word(head.arrays),
         word(nodes),
-    );
+    ]);
     push_arrays(row, head.own, head.arrays, out);
     push_nodes(row, file, item, body, nodes, out);
 }

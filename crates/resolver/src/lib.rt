@@ -43,7 +43,7 @@ pub fn resolve_program(row: &[u32], out: &mut Row)
 {
     let words = count_files(row, 0);
     let functions = count_files(row, 4);
-    out.push3(word(words), word(main_number(row)), word(functions));
+    out.push_all(&[word(words), word(main_number(row)), word(functions)]);
     push_files(row, 4, out);
     out.push(word(count_files(row, 3)));
     push_files(row, 3, out);

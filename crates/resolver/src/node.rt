@@ -1,4 +1,4 @@
-// One node with its name resolved. Nodes are told by their tags: 9 and 10 are calls of a function and by a table.
+// One node with its name resolved.
 ghost use Rattle.std.specs.Prelude.{◌≡◌, true};
 ghost use Rattle.language.specs.Syntax.{Name, Fn, i_fn, Prog};
 ghost use Rattle.language.specs.Meaning.{as_table};
@@ -10,19 +10,20 @@ ghost use Rattle.steps.specs.Generate.{scope, slots_of, number, fn_no};
 ghost use Rattle.generator.specs.Resolved.{resolve_node};
 ghost use Rattle.generator.specs.ResolvedRows.{node_words};
 ghost use Rattle.resolver.specs.Sound.{Sound, Known, Checked};
-ghost use Rattle.resolver.specs.Stands.{three};
+ghost use Rattle.resolver.specs.Stands.{seen};
 
-use crate::words::{NodeWords, call_words, named_words, names_value, plain_words};
+use crate::words::{Resolved, named, names_value, plain, word};
 use names::find::resolve;
 use names::refer::refer;
-use rows::read::at;
+use rows::read::{tag_at, word_at};
+use rows::tag::Tag;
 
 // The number of a function that is named in a file; function 0 calls main.
 pub fn function_number(row: &[u32], file: usize, name: usize) -> usize
     ensures { (p : Prog) (f x : Name) → Sound row.now p → Has row.now file (named f) → Has row.now name (named x) → Known p f x → result ≡ fn_no p f x }
 {
     match resolve(row, file, name) {
-        Some(s) => s.fns.saturating_add(1),
+        Some(spot) => spot.fns.saturating_add(1),
         None => 0,
     }
 }
@@ -32,26 +33,28 @@ fn table_number(row: &[u32], file: usize, name: usize) -> usize
     ensures { (p : Prog) (f x : Name) → Sound row.now p → Has row.now file (named f) → Has row.now name (named x) → Known p f x → result ≡ number as_table p f x }
 {
     match resolve(row, file, name) {
-        Some(s) => s.tables,
+        Some(spot) => spot.tables,
         None => 0,
     }
 }
 
 // The node at a place, in a function that is an item of a file.
-pub fn resolved_node(row: &[u32], file: usize, item: usize, node: usize) -> NodeWords
-    ensures { (p : Prog) (f : Name) (g : Fn) (t : Node) → Sound row.now p → ok_fn p f g ≡ true → Has row.now file (named f) → Has row.now item (item_row (i_fn g)) → Has row.now node (node_row t) → Checked p f t → three result ≡ node_words (resolve_node (scope p f (slots_of g)) t) }
+pub fn resolved_node(row: &[u32], file: usize, item: usize, node: usize) -> Resolved
+    ensures { (p : Prog) (f : Name) (g : Fn) (t : Node) → Sound row.now p → ok_fn p f g ≡ true → Has row.now file (named f) → Has row.now item (item_row (i_fn g)) → Has row.now node (node_row t) → Checked p f t → node_words (seen result) ≡ node_words (resolve_node (scope p f (slots_of g)) t) }
 {
-    let tag = at(row, node);
+    let tag = tag_at(row, node);
     let second = node.saturating_add(1);
     let third = node.saturating_add(2);
-    if tag == 9 {
-        return call_words(12, function_number(row, file, third), at(row, second));
+    match tag {
+        Tag::Call => Resolved::Call(
+            word(function_number(row, file, third)),
+            word_at(row, second),
+        ),
+        Tag::By => Resolved::By(word(table_number(row, file, third)), word_at(row, second)),
+        _ => if names_value(tag) {
+            named(tag, refer(row, file, item, second))
+        } else {
+            plain(tag, word_at(row, second))
+        },
     }
-    if tag == 10 {
-        return call_words(13, table_number(row, file, third), at(row, second));
-    }
-    if names_value(tag) {
-        return named_words(tag, refer(row, file, item, second));
-    }
-    plain_words(tag, at(row, second))
 }

@@ -72,3 +72,7 @@ few Arg = omega arith
 pub tag_read : {n : ℕ} (r : Result Tag NoTag) (tag d : Tag) → Numbers n r → n ≡ tag_no tag → result_unwrap_or r d ≡ tag
 tag_read {n} (Ok found) tag d is e = sym (known found) ∙ ap with_number (is ∙ e) ∙ known tag
 tag_read {n} (Err wrong) tag d is e = let k = few tag in let l = is.1 in absurd (omega arith)
+
+-- no two tags have one number
+pub tag_same : (a b : Tag) → tag_no a ≡ tag_no b → a ≡ b
+tag_same a b e = sym (known a) ∙ ap with_number e ∙ known b

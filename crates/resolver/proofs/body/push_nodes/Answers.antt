@@ -1,4 +1,4 @@
-use Rattle.std.proofs.Common.{arith}
+use Rattle.std.proofs.Common.{◌∙◌, arith}
 use Rattle.rows.proofs.Having.{has_as}
 use Rattle.steps.specs.Generate.{scope, slots_of}
 use Rattle.resolver.proofs.Walking.{lent_none, lent-pushed, pushed_as, walk_none, walk_more, walk_all}
@@ -11,7 +11,7 @@ loop-n-init c = (lent_none c.args.out.now, λ p f g ns so ok hf hi h k l. walk_n
 pub loop-n-preserved : goal.loop-n-preserved
 loop-n-preserved c =
     let i = c.loop-n.invariant in
-    (lent-pushed i.0 c.push3.ensures, λ p f g ns so ok hf hi h k l. walk_more (omega arith) (λ t ht kt. pushed_as (c.resolved_node-v.ensures p f g t so ok hf hi ht kt) c.push3.ensures) c.past_node-node.ensures (i.1 p f g ns so ok hf hi h k l))
+    (lent-pushed i.0 c.push_all.ensures, λ p f g ns so ok hf hi h k l. walk_more (omega arith) (λ t ht kt. pushed_as (c.from.ensures ∙ c.resolved_node.ensures p f g t so ok hf hi ht kt) c.push_all.ensures) c.past_node-node.ensures (i.1 p f g ns so ok hf hi h k l))
 
 pub returns : goal.returns
 returns c =

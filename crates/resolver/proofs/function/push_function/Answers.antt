@@ -11,7 +11,7 @@ use Rattle.resolver.proofs.function.push_function.Goals as goal
 
 pub returns : goal.returns
 returns c = record {
-  lent = lent-more (lent-pushed (lent_none c.args.out.now) c.push5.ensures) (lent-more c.push_arrays.ensures.lent c.push_nodes.ensures.lent);
+  lent = lent-more (lent-pushed (lent_none c.args.out.now) c.push_all.ensures) (lent-more c.push_arrays.ensures.lent c.push_nodes.ensures.lent);
   pushed = λ p f g so ok hf hi.
       let hd = c.head_of-head.ensures g hi in
       let few = few-of p f g ok in
@@ -19,5 +19,5 @@ returns c = record {
       let ln = few-nodes (nodes_b g.body) so.short hb in
       let en = c.count_nodes-nodes.ensures g.body hb in
       let em = c.count_words-words.ensures (map_list of_param g.params) hd.at_params (map-length of_param g.params ∙ sym hd.params) ∙ ap words_of (param_slots g.params) in
-      routine-pushed p f g few hd ln em c.saturating_sub-arrays.ensures en c.word.ensures c.word-2.ensures c.word-3.ensures c.word-4.ensures c.word-5.ensures c.push5.ensures (c.push_arrays.ensures.pushed g.arrs hd.at_arrays (sym hd.arrays) few.sized) (c.push_nodes.ensures.pushed p f g (nodes_b g.body) so ok hf hi hb (checked_body p f g ok) (sym en));
+      routine-pushed p f g few hd ln em c.saturating_sub-arrays.ensures en c.word.ensures c.word-2.ensures c.word-3.ensures c.word-4.ensures c.word-5.ensures c.push_all.ensures (c.push_arrays.ensures.pushed g.arrs hd.at_arrays (sym hd.arrays) few.sized) (c.push_nodes.ensures.pushed p f g (nodes_b g.body) so ok hf hi hb (checked_body p f g ok) (sym en));
 }

@@ -1,29 +1,37 @@
-use Rattle.std.proofs.Common.{ℕ, [], ◌∷◌, sym, ap, ◌∙◌, arith}
+use Rattle.std.proofs.Common.{◌≡◌, ℕ, false, [], ◌∷◌, sym, ap, ◌∙◌, arith}
 use Rattle.language.specs.Syntax.{pick}
+use Rattle.rows.specs.NodeTags.{tag_no}
 use Rattle.generator.specs.ResolvedRows.{node_words}
 use Rattle.names.proofs.NodeEffects.{tag_is}
+use Rattle.rows.specs.declared.tag.Tag.TheVariants.{Call, By}
+use Rattle.rows.proofs.NodeRows.{node_tag}
+use Rattle.rows.proofs.Tagging.{tag_same}
 use Rattle.resolver.specs.Stands.{is_value_name, named_by, plain_tag_of, has_value}
-use Rattle.resolver.proofs.NodeSorts.{call_words_are, table_words_are, named_words_are, plain_words_are}
+use Rattle.resolver.proofs.NodeSorts.{no_call, call_words_are, table_words_are, named_words_are, plain_words_are}
 use Rattle.resolver.proofs.node.resolved_node.Goals as goal
 
-pub returns-then-tag-eq9 : goal.returns-then-tag-eq9
-returns-then-tag-eq9 c = λ p f g t so ok hf hi h k.
-    let et = sym (tag_is t h) ∙ sym c.at-tag.ensures.is in
-    call_words_are p f g (omega arith) c.saturating_add-second.ensures c.saturating_add-third.ensures t so h k (et ∙ c.if-tag-eq9.true) c.at.ensures.is c.at.ensures.small (λ x hx kx. c.function_number.ensures p f x so hf hx kx) c.call_words.ensures
+pub returns-in-Call : goal.returns-in-Call
+returns-in-Call c = λ p f g t so ok hf hi h k.
+    let et = sym (tag_is t h) ∙ node_tag t h ∙ sym (ap tag_no (c.tag_at-tag.ensures t h)) ∙ ap tag_no c.in-Call.is in
+    call_words_are p f g (omega arith) c.saturating_add-second.ensures c.saturating_add-third.ensures t so h k et c.word_at.ensures (omega arith) (λ x hx kx. c.function_number.ensures p f x so hf hx kx) (λ lm ln. ap (λ (n : ℕ). 12 ∷ n ∷ c.word_at.result ∷ []) (c.word.ensures lm))
 
-pub returns-then-tag-eq10 : goal.returns-then-tag-eq10
-returns-then-tag-eq10 c = λ p f g t so ok hf hi h k.
-    let et = sym (tag_is t h) ∙ sym c.at-tag.ensures.is in
-    table_words_are p f g (omega arith) c.saturating_add-second.ensures c.saturating_add-third.ensures t so h k (et ∙ c.if-tag-eq10.true) c.at-then-tag-eq10.ensures.is c.at-then-tag-eq10.ensures.small (λ x hx kx. c.table_number.ensures p f x so hf hx kx) c.call_words-then-tag-eq10.ensures
+pub returns-in-By : goal.returns-in-By
+returns-in-By c = λ p f g t so ok hf hi h k.
+    let et = sym (tag_is t h) ∙ node_tag t h ∙ sym (ap tag_no (c.tag_at-tag.ensures t h)) ∙ ap tag_no c.in-By.is in
+    table_words_are p f g (omega arith) c.saturating_add-second.ensures c.saturating_add-third.ensures t so h k et c.word_at-in-By.ensures (omega arith) (λ x hx kx. c.table_number.ensures p f x so hf hx kx) (λ lm ln. ap (λ (n : ℕ). 13 ∷ n ∷ c.word_at-in-By.result ∷ []) (c.word-in-By.ensures lm))
 
 pub returns-then-names_value : goal.returns-then-names_value
 returns-then-names_value c = λ p f g t so ok hf hi h k.
-    let et = c.at-tag.ensures.is ∙ tag_is t h in
+    let et = ap tag_no (c.tag_at-tag.ensures t h) ∙ sym (node_tag t h) ∙ tag_is t h in
     let r = c.refer.result in
-    named_words_are p f g (omega arith) c.saturating_add-second.ensures c.saturating_add-third.ensures t so ok h (sym (ap is_value_name et) ∙ sym c.if-names_value.ensures) (λ x hx. c.refer.ensures p f g x so.is hf hi hx) (λ fits. c.named_words.ensures fits ∙ ap (λ (n : ℕ). node_words (named_by n r)) et)
+    named_words_are p f g (omega arith) c.saturating_add-second.ensures c.saturating_add-third.ensures t so ok h (sym (ap is_value_name et) ∙ sym c.if-names_value.ensures) (λ x hx. c.refer.ensures p f g x so.is hf hi hx) (λ fits. ap node_words (c.named.ensures fits) ∙ ap (λ (n : ℕ). node_words (named_by n r)) et)
 
-pub returns : goal.returns
-returns c = λ p f g t so ok hf hi h k.
-    let et = c.at-tag.ensures.is ∙ tag_is t h in
-    let v = c.at-2.result in
-    plain_words_are p f g (omega arith) c.saturating_add-second.ensures c.saturating_add-third.ensures t h k (λ q. c.if-tag-eq9.false (et ∙ q)) (λ q. c.if-tag-eq10.false (et ∙ q)) (sym (ap is_value_name et) ∙ sym c.if-names_value.ensures) c.at-2.ensures.is c.at-2.ensures.small (λ l. c.plain_words.ensures l ∙ ap (λ (n : ℕ). plain_tag_of n ∷ pick (has_value n) v 0 ∷ 0 ∷ []) et)
+pub returns-else-names_value : goal.returns-else-names_value
+returns-else-names_value c = λ p f g t so ok hf hi h k.
+    let tag = c.tag_at-tag.result in
+    let et = ap tag_no (c.tag_at-tag.ensures t h) ∙ sym (node_tag t h) ∙ tag_is t h in
+    let n9 : tag_no tag ≡ 9 → ⊥ = λ e. c.in_default.not-Call (tag_same tag Call e) in
+    let n10 : tag_no tag ≡ 10 → ⊥ = λ e. c.in_default.not-By (tag_same tag By e) in
+    let nv : is_value_name (tag_no tag) ≡ false = sym c.names_value.ensures ∙ c.if-names_value.false in
+    let v = c.word_at-else-names_value.result in
+    plain_words_are p f g (omega arith) c.saturating_add-second.ensures c.saturating_add-third.ensures t h k (λ q. n9 (et ∙ q)) (λ q. n10 (et ∙ q)) (sym (ap is_value_name et) ∙ nv) c.word_at-else-names_value.ensures (omega arith) (λ l. c.plain.ensures nv (no_call n9 n10) ∙ ap (λ (n : ℕ). plain_tag_of n ∷ pick (has_value n) v 0 ∷ 0 ∷ []) et)
