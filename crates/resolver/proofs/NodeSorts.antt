@@ -13,7 +13,7 @@ use Rattle.generator.specs.ResolvedRows.{node_words}
 use Rattle.names.specs.declared.found.Reference as found
 use Rattle.names.specs.Refer.{meant}
 use Rattle.names.proofs.NodeEffects.{tag_of}
-use Rattle.names.proofs.BodyNodes.{node-long}
+use Rattle.limits.proofs.BodyLaws.{node-long}
 use Rattle.names.proofs.Referents.{generated}
 use Rattle.resolver.specs.declared.words.NodeWords.{NodeWords}
 use Rattle.resolver.specs.Sound.{Sound, Known, Checked}

@@ -15,24 +15,24 @@ ghost use Rattle.resolver.specs.Stands.{three};
 use crate::words::{NodeWords, call_words, named_words, names_value, plain_words};
 use names::find::resolve;
 use names::refer::refer;
-use rows::read::at;
+use rows::read::{at, name_at};
 
 // The number of a function that is named in a file; function 0 calls main.
-pub fn function_number(row: &[u32], file: usize, name: usize) -> usize
-    ensures { (p : Prog) (f x : Name) → Sound row.now p → Has row.now file (named f) → Has row.now name (named x) → Known p f x → result ≡ fn_no p f x }
+pub fn function_number(row: &[u32], file: usize, name: &[u32]) -> usize
+    ensures { (p : Prog) (f : Name) → Sound row.now p → Has row.now file (named f) → Known p f name.now → result ≡ fn_no p f name.now }
 {
     match resolve(row, file, name) {
-        Some(s) => s.fns.saturating_add(1),
+        Some(spot) => spot.fns.saturating_add(1),
         None => 0,
     }
 }
 
 // The number of a table that is named in a file.
-fn table_number(row: &[u32], file: usize, name: usize) -> usize
-    ensures { (p : Prog) (f x : Name) → Sound row.now p → Has row.now file (named f) → Has row.now name (named x) → Known p f x → result ≡ number as_table p f x }
+fn table_number(row: &[u32], file: usize, name: &[u32]) -> usize
+    ensures { (p : Prog) (f : Name) → Sound row.now p → Has row.now file (named f) → Known p f name.now → result ≡ number as_table p f name.now }
 {
     match resolve(row, file, name) {
-        Some(s) => s.tables,
+        Some(spot) => spot.tables,
         None => 0,
     }
 }
@@ -45,13 +45,21 @@ pub fn resolved_node(row: &[u32], file: usize, item: usize, node: usize) -> Node
     let second = node.saturating_add(1);
     let third = node.saturating_add(2);
     if tag == 9 {
-        return call_words(12, function_number(row, file, third), at(row, second));
+        return call_words(
+            12,
+            function_number(row, file, name_at(row, third)),
+            at(row, second),
+        );
     }
     if tag == 10 {
-        return call_words(13, table_number(row, file, third), at(row, second));
+        return call_words(
+            13,
+            table_number(row, file, name_at(row, third)),
+            at(row, second),
+        );
     }
     if names_value(tag) {
-        return named_words(tag, refer(row, file, item, second));
+        return named_words(tag, refer(row, file, item, name_at(row, second)));
     }
     plain_words(tag, at(row, second))
 }
