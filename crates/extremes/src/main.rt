@@ -136,7 +136,7 @@ fn tell_all(rt: &HostRuntime, work: &mut [u32]) -> anyhow::Result<()> {
 // Reads a text so many times.
 fn read_again(text: &[u8], times: u32, work: &mut [u32]) {
     for _ in 0..times {
-        read(text, work);
+        let _ = read(text, work);
     }
 }
 

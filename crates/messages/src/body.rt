@@ -4,21 +4,19 @@ use super::function::Function;
 use super::problem::Fault;
 use super::search::Search;
 use super::seeking::{from_large, from_leaving};
+use limits::entries::{Entries, Locals};
+use limits::head::head_of;
+use limits::nodes::Body;
 use names::asking::{depth_past, effect_of};
-use names::body::body_of;
-use names::found::Listed;
-use names::kinds::names_of;
 use names::pile::follow;
 use places::{Located, from_argument, locate, past_pieces};
-use rows::read::{at, past_name, past_node, tag_at};
+use rows::read::{at, tag_at, word_at};
 use rows::tag::Tag;
 
 // How far a body is read.
 #[derive(Clone, Copy)]
 struct Reader {
-    // the place of the node
-    node: usize,
-    // the number of its name, in the order of nodes; the function's own names come first
+    // the number of the next node's name, in the order of nodes; the function's own names come first
     name: usize,
     // how many `break` and `continue` stand before it, and in how many loops it stands
     leaving: usize,
@@ -29,31 +27,26 @@ struct Reader {
 
 impl Reader {
     // Past a node, behind which the pile has so many kinds.
-    fn past(self, row: &[u32], len: usize) -> Reader {
-        let tag = tag_at(row, self.node);
+    fn past(self, row: &[u32], node: usize, len: usize) -> Reader {
+        let tag = tag_at(row, node);
         Reader {
-            node: past_node(row, self.node),
             name: self.name.saturating_add(usize::from(tag.has_name())),
             leaving: self
                 .leaving
                 .saturating_add(usize::from(matches!(tag, Tag::Break | Tag::Next))),
-            depth: depth_past(tag, self.depth),
+            depth: depth_past(at(row, node), self.depth),
             len,
         }
     }
 }
 
 // The first of the arguments on top of the pile that is not of its parameter's kind.
-fn unlike_argument(row: &[u32], params: Listed, pile: &[u32], len: usize) -> usize {
-    let from = len.saturating_sub(params.count);
-    let mut place = params.place;
-    for k in 0..params.count {
-        if at(pile, from.saturating_add(k)) != at(row, place) {
-            return k;
-        }
-        place = past_name(row, place.saturating_add(3));
-    }
-    0
+fn unlike_argument(row: &[u32], params: Entries<Locals>, pile: &[u32]) -> usize {
+    let from = pile.len().saturating_sub(params.len());
+    params
+        .zip(&pile[from..])
+        .position(|(param, kind)| word_at(row, param) != *kind)
+        .unwrap_or(0)
 }
 
 // The text from the name of a node on; the text begins with the function.
@@ -70,15 +63,15 @@ impl Search<'_> {
         function: Function,
     ) -> Result<(), Located<Fault>> {
         let row = self.row;
+        let locals = head_of(row, function.item).locals;
         let mut reader = Reader {
-            node: body_of(row, function.item),
-            name: names_of(row, function.item).count,
+            name: locals.len(),
             leaving: 0,
             depth: 0,
             len: 0,
         };
-        for _ in 0..row.len() {
-            if let Err(fault) = function.check_node(reader.node, reader.depth) {
+        for node in Body::new(row, locals.end()) {
+            if let Err(fault) = function.check_node(node, reader.depth) {
                 let place = match fault {
                     Fault::NumberTooLarge => from_large(text),
                     Fault::OutsideLoop => from_leaving(text, reader.leaving),
@@ -89,13 +82,13 @@ impl Search<'_> {
             if reader.len >= self.pile.len() {
                 return Ok(());
             }
-            let effect = effect_of(row, function.file, function.item, reader.node, reader.depth);
+            let effect = effect_of(row, function.file, function.item, node, reader.depth);
             let Some(len) = follow(row, effect, self.pile, reader.len) else {
-                let unlike = unlike_argument(row, effect.params, self.pile, reader.len);
+                let unlike = unlike_argument(row, effect.params, &self.pile[..reader.len]);
                 let name = from_name(self.text, text, reader.name);
                 return Err(locate(self.text, from_argument(name, unlike), Fault::ArgumentKind));
             };
-            reader = reader.past(row, len);
+            reader = reader.past(row, node, len);
         }
         Ok(())
     }

@@ -8,6 +8,7 @@ use places::pieces_of;
 const DEEPEST: usize = 40;
 
 // Names are given by how many bytes of the text are left there.
+#[derive(Drop)]
 struct Walk {
     // those before the open brackets
     waiting: [Option<usize>; DEEPEST],

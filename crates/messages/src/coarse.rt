@@ -4,13 +4,14 @@ use super::problem::Fault;
 use super::search::Search;
 use super::seeking::{from_large, from_leaving, from_name};
 use limits::entries::{Entries, Items, files_of, items_of, own_name};
+use limits::head::body_of;
+use limits::nodes::Body;
 use limits::{files_once, item_fits, names_once, totals_fit};
 use names::asking::depth_past;
-use names::body::body_of;
 use names::items::{check_item, names_differ};
 use places::{Located, from_item, locate};
 use rows::kind::ItemKind;
-use rows::read::{at, item_kind_at, past_name, past_node, tag_at};
+use rows::read::{at, item_kind_at, past_name, tag_at};
 use rows::tag::Tag;
 
 // Which limit an item passes.
@@ -48,10 +49,8 @@ fn name_of_node(row: &[u32], node: usize) -> usize {
 // What is wrong with a function's body; the text begins with the function.
 fn body_fault(whole: &[u8], text: &[u8], function: Function) -> Located<Fault> {
     let row = function.row;
-    let mut node = body_of(row, function.item);
     let mut depth: usize = 0;
-    for _ in 0..row.len() {
-        let tag = tag_at(row, node);
+    for node in Body::new(row, body_of(row, function.item)) {
         if let Err(fault) = function.check_node(node, depth) {
             let place = match fault {
                 Fault::NumberTooLarge => from_large(text),
@@ -60,11 +59,7 @@ fn body_fault(whole: &[u8], text: &[u8], function: Function) -> Located<Fault> {
             };
             return locate(whole, place, fault);
         }
-        if tag == Tag::End {
-            break;
-        }
-        depth = depth_past(tag, depth);
-        node = past_node(row, node);
+        depth = depth_past(at(row, node), depth);
     }
     locate(whole, text, Fault::ArgumentKind)
 }

@@ -5,14 +5,11 @@ use super::problem::Fault;
 use super::search::Search;
 use limits::entries::{Entries, Items, Names, files_of, is_named, items_of, own_name, used};
 use limits::{MOST_ELEMENTS, elements_of_item, files_once, item_fits, names_once};
-use names::find::find_top;
+use names::find::{MAIN, find_top};
 use names::items::check_item;
 use places::{Located, from_item, locate, past_pieces};
 use rows::kind::ItemKind;
 use rows::read::{at, item_kind_at, name_at};
-
-// The name main, behind its length.
-const MAIN: [u32; 5] = [4, 109, 97, 105, 110];
 
 // Whether an item gives its file a name.
 fn gives(row: &[u32], item: usize, name: &[u32]) -> bool {
@@ -70,7 +67,7 @@ fn array_too_many(row: &[u32]) -> Option<usize> {
 
 // What is wrong with main.
 fn main_fault(whole: &[u8], row: &[u32]) -> Located<Fault> {
-    match find_top(row, 1, &MAIN, 0) {
+    match find_top(row, 1, &MAIN) {
         Some(found) => {
             let before = items_of(row, 1)
                 .position(|item| item == found.item)

@@ -4,59 +4,49 @@ use super::function::Function;
 use super::problem::Fault;
 use super::search::Search;
 use super::seeking::{from_large, is_any_name, is_number};
-use limits::entries::{Entries, Names, used};
-use limits::head::head_of;
+use limits::entries::{Entries, LETTERS, Locals, Names, is_named, used};
+use limits::head::{head_of, own_arrays};
 use limits::{MOST_ARRAYS, MOST_OWN, MOST_PARAMS, MOST_VARS};
-use names::found::Listed;
 use names::items::{is_alike, is_there};
-use names::kinds::{names_of, params_first, params_named};
-use names::own::find_own;
+use names::kinds::{params_first, params_named};
 use places::{Located, from_piece, locate, past_pieces};
 use rows::kind::ItemKind;
 use rows::read::{at, item_kind_at, name_at, past_name, same_at};
 
 // The first of a function's names that comes a second time.
-fn doubled_name(row: &[u32], names: Listed) -> Option<usize> {
-    let mut place = names.place;
-    for k in 0..names.count {
-        let name = place.saturating_add(3);
-        if find_own(row, names.place, k, name).is_some() {
-            return Some(k);
-        }
-        place = past_name(row, name);
-    }
-    None
+fn doubled_name(row: &[u32], locals: Entries<Locals>) -> Option<usize> {
+    let (k, _) = locals.enumerate().find(|(k, local)| {
+        let name = name_at(row, local.saturating_add(LETTERS));
+        locals
+            .take(*k)
+            .any(|other| is_named(row, other.saturating_add(LETTERS), name))
+    })?;
+    Some(k)
 }
 
-// The first of a function's arrays whose size is out of range; so many names stand before them.
-fn wrong_size(row: &[u32], names: Listed, before: usize) -> usize {
-    let mut place = names.place;
-    for k in 0..names.count {
-        let size = at(row, place.saturating_add(1));
-        let high = at(row, place.saturating_add(2));
-        if k >= before && (high != 0 || size == 0 || size > MOST_OWN) {
-            return k - before;
-        }
-        place = past_name(row, place.saturating_add(3));
-    }
-    0
+// Whether the size of a function's own array is in range.
+fn size_fits(row: &[u32], array: usize) -> bool {
+    let size = at(row, array.saturating_add(1));
+    let high = at(row, array.saturating_add(2));
+    high == 0 && (1..=MOST_OWN).contains(&size)
 }
 
 // What is wrong with a function that is beyond its limits.
 fn function_limit(whole: &[u8], text: &[u8], row: &[u32], item: usize) -> Located<Fault> {
     let head = head_of(row, item);
     let params = head.params.len();
-    let names = names_of(row, item);
     let (name, fault) = if params > MOST_PARAMS {
         (MOST_PARAMS, Fault::TooManyParameters)
     } else if head.vars > MOST_VARS {
         (params + MOST_VARS, Fault::TooManyVariables)
     } else if head.arrays > MOST_ARRAYS {
         (params + head.vars + MOST_ARRAYS, Fault::TooManyArrays)
-    } else if let Some(again) = doubled_name(row, names) {
+    } else if let Some(again) = doubled_name(row, head.locals) {
         (again, Fault::DoubledName)
     } else {
-        let size = wrong_size(row, names, params + head.vars);
+        let size = own_arrays(row, head)
+            .position(|array| !size_fits(row, array))
+            .unwrap_or(0);
         return locate(
             whole,
             from_piece(text, size, is_number),
@@ -89,11 +79,17 @@ fn table_fault(row: &[u32], file: usize, place: usize) -> (usize, Fault) {
     let Some(params) = params_first(row, file, place) else {
         return (0, Fault::UnknownName);
     };
-    let unlike = Entries::<Names>::counted(row, place)
-        .enumerate()
-        .find(|(_, name)| !is_alike(row, file, params, *name));
+    let unlike = Entries::<Names>::counted(row, place).enumerate().find(|(_, name)| !is_alike(
+        row,
+        file,
+        params,
+        name_at(row, *name),
+    ));
     match unlike {
-        Some((k, name)) if params_named(row, file, name).is_none() => (k, Fault::UnknownName),
+        Some((k, name)) if params_named(row, file, name_at(row, name)).is_none() => (
+            k,
+            Fault::UnknownName,
+        ),
         Some((k, _)) => (k, Fault::TableUnlike),
         None => (0, Fault::TableUnlike),
     }
@@ -111,7 +107,7 @@ fn use_fault(whole: &[u8], text: &[u8], row: &[u32], file: usize, item: usize) -
         return locate(whole, past_pieces(text, 1), Fault::UnknownFile);
     }
     let missing = used(row, item)
-        .position(|used| !is_there(row, name, used))
+        .position(|used| !is_there(row, name, name_at(row, used)))
         .unwrap_or(0);
     locate(whole, from_listed(text, missing), Fault::NotThere)
 }
