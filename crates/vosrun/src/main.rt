@@ -91,7 +91,9 @@ fn print_words(rt: &HostRuntime, words: &[u32]) -> io::Result<()> {
     Ok(())
 }
 
-// Runs to the end or until the steps are used up, and prints words as they come.
+// Runs to the end or until the steps are used up, and prints words as they come. Not inlined, so that the processor's loop has
+// the registers to itself.
+#[inline(never)]
 fn follow(
     rt: &HostRuntime,
     cpu: &mut Cpu,
