@@ -1,45 +1,34 @@
 -- What each option sets, by its name and its value.
-use Rattle.std.specs.Prelude.{ℕ, List, Some, None, codes, Option}
+use Rattle.std.specs.Prelude.{◌≡◌, ℕ, List, Some, None, Result, Ok, Err, codes}
+use Rattle.std.specs.Option.{ok_or}
 use Rattle.std.specs.Str.{bytes_eq}
 use Rattle.language.specs.Syntax.{pick}
 use Rattle.board.specs.Numbers.{number}
 use Rattle.board.specs.declared.filling.Pattern.{Pattern}
 use Rattle.board.specs.declared.filling.Pattern.TheVariants.{Ones, Random}
 use Rattle.board.specs.declared.options.Settings.{Settings}
-use Rattle.board.specs.declared.options.Setting.{Setting}
-use Rattle.board.specs.declared.options.Setting.TheVariants.{Set, NoOption, NoNumber}
+use Rattle.board.specs.declared.options.SettingError.{SettingError}
+use Rattle.board.specs.declared.options.SettingError.TheVariants.{NoOption, NoNumber}
 
-abbrev pub with_at : Settings → Option ℕ → Setting
-with_at s None = NoNumber
-with_at s (Some n) = Set (record { at = n; top = s.top; memory = s.memory; fill = s.fill; steps = s.steps })
+-- f of the value, if there is one
+abbrev pub with_ok : {A B E : Type 0} → (A → B) → Result A E → Result B E
+with_ok f (Ok x) = Ok (f x)
+with_ok f (Err e) = Err e
 
-abbrev pub with_top : Settings → Option ℕ → Setting
-with_top s None = NoNumber
-with_top s (Some n) = Set (record { at = s.at; top = Some n; memory = s.memory; fill = s.fill; steps = s.steps })
+-- the values if no option is given
+abbrev pub Defaults : Settings → Type 0
+Defaults s = s ≡ record { at = 0; top = None; memory = 1048576; fill = Random 0; steps = 1000000000 }
 
-abbrev pub with_memory : Settings → Option ℕ → Setting
-with_memory s None = NoNumber
-with_memory s (Some n) = Set (record { at = s.at; top = s.top; memory = n; fill = s.fill; steps = s.steps })
-
-abbrev pub with_steps : Settings → Option ℕ → Setting
-with_steps s None = NoNumber
-with_steps s (Some n) = Set (record { at = s.at; top = s.top; memory = s.memory; fill = s.fill; steps = n })
-
-abbrev pub with_fill : Settings → Option Pattern → Setting
-with_fill s None = NoNumber
-with_fill s (Some f) = Set (record { at = s.at; top = s.top; memory = s.memory; fill = f; steps = s.steps })
-
-abbrev pub seeded : Option ℕ → Option Pattern
-seeded None = None
-seeded (Some n) = Some (Random n)
+abbrev pub word : List ℕ → Result ℕ SettingError
+word v = ok_or (number v) NoNumber
 
 -- ones, or the number of a seed
-abbrev pub fill_of : List ℕ → Option Pattern
-fill_of v = pick (bytes_eq v (codes "ones")) (Some Ones) (seeded (number v))
+abbrev pub fill_of : List ℕ → Result Pattern SettingError
+fill_of v = pick (bytes_eq v (codes "ones")) (Ok Ones) (with_ok Random (word v))
 
-abbrev pub set : Settings → List ℕ → List ℕ → Setting
-set s name v = pick (bytes_eq name (codes "--at")) (with_at s (number v))
-    (pick (bytes_eq name (codes "--top")) (with_top s (number v))
-    (pick (bytes_eq name (codes "--memory")) (with_memory s (number v))
-    (pick (bytes_eq name (codes "--fill")) (with_fill s (fill_of v))
-    (pick (bytes_eq name (codes "--steps")) (with_steps s (number v)) NoOption))))
+abbrev pub set : Settings → List ℕ → List ℕ → Result Settings SettingError
+set s name v = pick (bytes_eq name (codes "--at")) (with_ok (λ n. record s { at = n }) (word v))
+    (pick (bytes_eq name (codes "--top")) (with_ok (λ n. record s { top = Some n }) (word v))
+    (pick (bytes_eq name (codes "--memory")) (with_ok (λ n. record s { memory = n }) (word v))
+    (pick (bytes_eq name (codes "--fill")) (with_ok (λ f. record s { fill = f }) (fill_of v))
+    (pick (bytes_eq name (codes "--steps")) (with_ok (λ n. record s { steps = n }) (word v)) (Err NoOption)))))

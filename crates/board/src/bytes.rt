@@ -4,25 +4,18 @@ ghost use Rattle.board.specs.Bytes.{bytes as laid};
 
 use std::alloc::{AllocError, Global};
 
-// The word of four bytes.
-fn word_of(a: u8, b: u8, c: u8, d: u8) -> u32
-    ensures { result ≡ a + 256 * b + 65536 * c + 16777216 * d }
-{
-    a as u32 + 256 * b as u32 + 65536 * c as u32 + 16777216 * d as u32
-}
-
 // The words whose bytes these are; none if the last is not whole.
 pub fn words_of_bytes(heap: Global, bytes: &[u8]) -> Result<Option<Vec<u32>>, AllocError>
     ensures { IfOk result (λ o. MatchOption o (length bytes.now % 4 ≢ 0) (λ v. laid v.items ≡ bytes.now)) }
 {
-    if bytes.len() % 4 != 0 {
+    let (whole, rest) = bytes.as_chunks::<4>();
+    if !rest.is_empty() {
         return Ok(None);
     }
-    let mut words = Vec::new(heap);
-    for i in 0..bytes.len() / 4 {
-        let k = 4 * i;
-        words.push(word_of(bytes[k], bytes[k + 1], bytes[k + 2], bytes[k + 3]))?;
-    }
+    let words = whole
+        .iter()
+        .map(|four| u32::from_le_bytes(*four))
+        .collect(heap)?;
     Ok(Some(words))
 }
 

@@ -9,7 +9,7 @@ mod options;
 mod starting;
 
 pub use bytes::words_of_bytes;
-pub use filling::{Pattern, fill};
+pub use filling::Pattern;
 pub use numbers::{parse_number, read_words};
-pub use options::{Setting, Settings, defaults, set_option};
-pub use starting::{Started, start};
+pub use options::{SettingError, Settings};
+pub use starting::start;

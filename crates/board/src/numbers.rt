@@ -1,6 +1,6 @@
 // Decimal numbers in text: one for an option, many for the words that there are to read.
 ghost use Rattle.std.specs.Prelude.{◌≡◌, ℕ, ◌+◌, ◌-◌, ◌*◌, ◌<◌, ◌≤◌, IfOk, Some, None, MatchOption, OnOk};
-ghost use Rattle.board.specs.Numbers.{number, blank, more, so_far, ended, numbers as listed};
+ghost use Rattle.board.specs.Numbers.{number, blank, more, ended, numbers as listed};
 
 use std::alloc::{AllocError, Global};
 
@@ -8,30 +8,20 @@ use std::alloc::{AllocError, Global};
 fn push_digit(value: u32, b: u8) -> Option<u32>
     ensures { result ≡ more value b }
 {
-    if b < b'0' || b > b'9' {
-        return None;
-    }
-    let wide = value as u64 * 10 + (b - b'0') as u64;
-    if wide < 4294967296 {
-        Some(wide as u32)
-    } else {
-        None
-    }
+    let digit = char::from(b).to_digit(10)?;
+    value.checked_mul(10)?.checked_add(digit)
 }
 
 // The word that a text is the number of, in digits alone.
 pub fn parse_number(text: &[u8]) -> Option<u32>
     ensures { result ≡ number text.now }
 {
-    if text.len() == 0 {
+    if text.is_empty() {
         return None;
     }
     let mut value = 0;
     for b in text {
-        match push_digit(value, *b) {
-            Some(longer) => value = longer,
-            None => return None,
-        }
+        value = push_digit(value, *b)?;
     }
     Some(value)
 }
@@ -39,16 +29,7 @@ pub fn parse_number(text: &[u8]) -> Option<u32>
 fn is_blank(b: u8) -> bool
     ensures { result ≡ blank b }
 {
-    b == b' ' || b == b'\t' || b == b'\n' || b == b'\r'
-}
-
-fn value_of(begun: Option<u32>) -> u32
-    ensures { result ≡ so_far begun }
-{
-    match begun {
-        Some(n) => n,
-        None => 0,
-    }
+    matches!(b, b' ' | b'\t' | b'\n' | b'\r')
 }
 
 // Keeps the number that ends here, if one was begun.
@@ -72,7 +53,7 @@ pub fn read_words(heap: Global, text: &[u8]) -> Result<Option<Vec<u32>>, AllocEr
             keep(&mut words, begun)?;
             begun = None;
         } else {
-            let Some(n) = push_digit(value_of(begun), *b) else {
+            let Some(n) = push_digit(begun.unwrap_or(0), *b) else {
                 return Ok(None);
             };
             begun = Some(n);

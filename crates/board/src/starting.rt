@@ -1,35 +1,27 @@
 // An image loaded into memory, and the processor set to begin it.
 ghost use Rattle.board.specs.Starting.{Starts};
 
-use image::{Placed, place, start_at};
+use image::{Refusal, place};
 use processor::Cpu;
 
-// A processor that is ready; or there is no sound image, or no room for it.
-#[derive(Drop)]
-pub enum Started {
-    Ready(Cpu),
-    Bad,
-    Large,
-}
-
 // Loads an image at word `at` with the stack's part up to word `top`. The registers are as given, but those that loading sets.
-pub fn start(image: &[u32], at: u32, top: u32, registers: [u32; 32], memory: &mut [u32]) -> Started
+pub fn start(
+    image: &[u32],
+    at: u32,
+    top: u32,
+    registers: [u32; 32],
+    memory: &mut [u32],
+) -> Result<Cpu, Refusal>
     ensures { Starts image.now at top registers memory.old memory.new result }
 {
-    match place(image, at, top, memory) {
-        Placed::At(entry, floor) => {
-            let from = start_at(entry, floor, top);
-            let mut cpu = Cpu {
-                regs: registers,
-                pc: from.pc,
-            };
-            cpu.regs[2] = from.stack;
-            cpu.regs[3] = from.floor;
-            Started::Ready(cpu)
-        }
-        Placed::NoImage => Started::Bad,
-        Placed::TooLarge => Started::Large,
-    }
+    let from = place(image, at, top, memory)?.start(top);
+    let mut cpu = Cpu {
+        regs: registers,
+        pc: from.pc,
+    };
+    cpu.regs[2] = from.stack;
+    cpu.regs[3] = from.floor;
+    Ok(cpu)
 }
 
 #[cfg(test)]
@@ -51,7 +43,7 @@ mod tests {
     // Registers and memory are all ones before.
     fn runs_at(rt: &impl Abort, heap: Global, at: u32) -> Result<(), Fail> {
         let mut memory = vec![in heap; u32::MAX; MEMORY]?;
-        let Started::Ready(mut cpu) = start(
+        let Ok(mut cpu) = start(
             &LOOP_IMAGE,
             at,
             65600,

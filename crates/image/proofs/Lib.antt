@@ -1,5 +1,4 @@
--- The lemmas behind the loader: lists of numbers, slices written in parts, rows and loading, and the laws of the promise.
+-- The lemmas behind the loader: lists of numbers, loading, and the laws of the promise.
 pub mod Rows
-pub mod Views
 pub mod Loads
 pub mod Laws

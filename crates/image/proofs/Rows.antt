@@ -1,6 +1,6 @@
 -- Tests on each number of a list, and words moved one by one.
 -- Rests on specs/Image; the loops of the loader and the lemmas on loading use it.
-use Rattle.std.proofs.Common.{◌≡◌, ℕ, zero, suc, ◌+◌, ◌%◌, ◌<◌, ◌≤◌, Bool, true, false, ◌&&◌, T, ltb, List, [], ◌∷◌, length, get_or, drop, set, refl, ap, ◌∙◌, ltb→lt, le-ltb, lt-ltb}
+use Rattle.std.proofs.Common.{◌≡◌, ℕ, zero, suc, ◌+◌, ◌%◌, ◌<◌, Bool, true, false, ◌&&◌, T, ltb, List, [], ◌∷◌, length, get_or, drop, set, refl, ap, ◌∙◌, ltb→lt}
 use native.Mathlib.Nat.{add-mod-mod}
 use Rattle.std.proofs.lemmas.List.{drop_more}
 use Rattle.language.specs.Words.{all, add}
@@ -36,12 +36,6 @@ placed_wrapped xs [] b = refl
 placed_wrapped xs (n ∷ ns) b = ap (λ ys. placed ys ns (b % all)) (bump_wrapped xs n b) ∙ placed_wrapped (bump xs n b) ns b
 
 -- the number at i, and those behind it
-pub within_not : (n : ℕ) (xs : List ℕ) (i : ℕ) → i < length xs → n ≤ get_or xs i 0 → within n (drop i xs) ≡ false
-within_not n xs i h le = ap (within n) (drop_more xs i 0 h) ∙ rw (le-ltb (get_or xs i 0) n le)
-
-pub within_more : (n : ℕ) (xs : List ℕ) (i : ℕ) → i < length xs → get_or xs i 0 < n → within n (drop i xs) ≡ within n (drop (i + 1) xs)
-within_more n xs i h lt = ap (within n) (drop_more xs i 0 h) ∙ rw (lt-ltb (get_or xs i 0) n lt)
-
 pub within-here : (n : ℕ) (xs : List ℕ) (i : ℕ) → i < length xs → T (within n (drop i xs)) → get_or xs i 0 < n
 within-here n xs i h t = ltb→lt (get_or xs i 0) n (both_left _ _ (rw (drop_more xs i 0 h) at t))
 

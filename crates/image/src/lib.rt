@@ -7,19 +7,37 @@ ghost use Rattle.image.specs.Place.{PlacedSays, StartSays, OneImage, OneAnswer, 
 mod load;
 mod row;
 
-use self::load::write_part;
 use self::row::read_row;
+use std::error::Error;
+use std::fmt;
 
-// Where a loaded image begins, and where the stack's part does, as addresses in bytes; or why it was not loaded.
-#[derive(Clone, Copy)]
-pub enum Placed {
-    At(u64, u64),
+// Where a loaded image begins, and where the stack's part does, as addresses in bytes.
+#[derive(Clone, Copy, Debug, PartialEq, Eq)]
+pub struct Placed {
+    pub entry: u64,
+    pub floor: u64,
+}
+
+// Why an image was not loaded: its row is that of no sound image, or it passes the stack's part or the memory.
+#[derive(Clone, Copy, Debug, PartialEq, Eq)]
+pub enum Refusal {
     NoImage,
     TooLarge,
 }
 
+impl fmt::Display for Refusal {
+    fn fmt<W: fmt::Write>(&self, f: &mut fmt::Formatter<W>) -> fmt::Result {
+        f.write_str(match self {
+            Refusal::NoImage => "no image",
+            Refusal::TooLarge => "too large",
+        })
+    }
+}
+
+impl Error for Refusal {}
+
 // What the board is given besides the memory: its program counter, register 2 (the end of the stack's part) and register 3 (where that part begins).
-#[derive(Clone, Copy)]
+#[derive(Clone, Copy, Debug, PartialEq, Eq)]
 pub struct Start {
     pub pc: u32,
     pub stack: u32,
@@ -27,39 +45,37 @@ pub struct Start {
 }
 
 // Loads an image at word `at`, with the stack's part up to word `top`; or says why not, and writes nothing.
-pub fn place(image: &[u32], at: u32, top: u32, memory: &mut [u32]) -> Placed
+pub fn place(image: &[u32], at: u32, top: u32, memory: &mut [u32]) -> Result<Placed, Refusal>
     ensures { PlacedSays image.now at top memory.old memory.new result }
 {
-    let Some(parts) = read_row(image) else {
-        return Placed::NoImage;
-    };
+    let parts = read_row(image).ok_or(Refusal::NoImage)?;
     let start = at as usize;
     let end = start + parts.body.len() + parts.noughts;
     if end > top as usize || top as usize > memory.len() {
-        return Placed::TooLarge;
+        return Err(Refusal::TooLarge);
     }
-    write_part(
-        &mut memory[start..end],
-        parts.body,
-        parts.moved,
-        at.wrapping_mul(4),
-    );
-    Placed::At(4 * (start + parts.entry) as u64, 4 * end as u64)
+    parts.write(&mut memory[start..end], at.wrapping_mul(4));
+    Ok(Placed {
+        entry: 4 * (start + parts.entry) as u64,
+        floor: 4 * end as u64,
+    })
 }
 
-// How the board starts an image that was placed: from the two addresses of the answer, and the same word `top`.
-pub fn start_at(entry: u64, floor: u64, top: u32) -> Start
-    ensures says { StartSays entry floor top result }
-    ensures ready { PlacedReady }
-{
-    Start {
-        pc: low_word(entry),
-        stack: top.wrapping_mul(4),
-        floor: low_word(floor),
+impl Placed {
+    // How the board starts the image, with the same word `top` as it was placed with.
+    pub fn start(self, top: u32) -> Start
+        ensures says { StartSays self top result }
+        ensures ready { PlacedReady }
+    {
+        Start {
+            pc: low_word(self.entry),
+            stack: top.wrapping_mul(4),
+            floor: low_word(self.floor),
+        }
     }
 }
 
-// A number modulo 2^32.
+// A number modulo 2^32: `as` alone takes only a number that fits.
 fn low_word(number: u64) -> u32
     ensures { result ≡ number % 4294967296 }
 {
@@ -81,23 +97,27 @@ mod tests {
     // Three body words, the last of them named twice and before the first, and two noughts.
     const SMALL: [u32; 11] = [19525, 3, 2, 1, 3, 10, 20, 4294967295, 2, 0, 2];
 
+    fn placed(entry: u64, floor: u64) -> Result<Placed, Refusal> {
+        Ok(Placed { entry, floor })
+    }
+
     #[test]
     fn loads(rt: HostRuntime) {
         let mut memory = [7; 9];
-        assert!(rt; matches!(place(&SMALL, 0, 9, &mut memory), Placed::At(4, 20)));
+        assert_eq!(rt; place(&SMALL, 0, 9, &mut memory), placed(4, 20));
         assert!(rt; memory == [10, 20, 4294967295, 0, 0, 7, 7, 7, 7]);
         memory = [7; 9];
-        assert!(rt; matches!(place(&SMALL, 1, 8, &mut memory), Placed::At(8, 24)));
+        assert_eq!(rt; place(&SMALL, 1, 8, &mut memory), placed(8, 24));
         assert!(rt; memory == [7, 14, 20, 7, 0, 0, 7, 7, 7]);
         // with nothing over
         memory = [7; 9];
-        assert!(rt; matches!(place(&SMALL, 4, 9, &mut memory), Placed::At(20, 36)));
+        assert_eq!(rt; place(&SMALL, 4, 9, &mut memory), placed(20, 36));
         assert!(rt; memory == [7, 7, 7, 7, 26, 20, 31, 0, 0]);
     }
 
     fn no_image(row: &[u32]) -> bool {
         let mut memory = [7; 9];
-        matches!(place(row, 0, 9, &mut memory), Placed::NoImage) && memory == [7; 9]
+        place(row, 0, 9, &mut memory) == Err(Refusal::NoImage) && memory == [7; 9]
     }
 
     #[test]
@@ -114,7 +134,7 @@ mod tests {
 
     fn too_large(row: &[u32], at: u32, top: u32) -> bool {
         let mut memory = [7; 9];
-        matches!(place(row, at, top, &mut memory), Placed::TooLarge) && memory == [7; 9]
+        place(row, at, top, &mut memory) == Err(Refusal::TooLarge) && memory == [7; 9]
     }
 
     #[test]
@@ -130,10 +150,32 @@ mod tests {
 
     #[test]
     fn starts(rt: HostRuntime) {
-        let first = start_at(8, 24, 9);
-        assert!(rt; first.pc == 8 && first.stack == 36 && first.floor == 24);
+        let first = Placed {
+            entry: 8,
+            floor: 24,
+        }
+        .start(9);
+        assert_eq!(rt;
+            first,
+            Start {
+                pc: 8,
+                stack: 36,
+                floor: 24
+            }
+        );
         // the memory's end, at 2^32 bytes
-        let last = start_at(4294967292, 4294967296, 1073741824);
-        assert!(rt; last.pc == 4294967292 && last.stack == 0 && last.floor == 0);
+        let last = Placed {
+            entry: 4294967292,
+            floor: 4294967296,
+        }
+        .start(1073741824);
+        assert_eq!(rt;
+            last,
+            Start {
+                pc: 4294967292,
+                stack: 0,
+                floor: 0
+            }
+        );
     }
 }

@@ -1,5 +1,5 @@
 // An image's row of words, taken apart and found sound, or refused.
-ghost use Rattle.std.specs.Prelude.{◌≡◌, MatchOption};
+ghost use Rattle.std.specs.Prelude.{◌≡◌, length, IsTrue, MatchOption};
 ghost use Rattle.image.specs.Image.{within};
 ghost use Rattle.image.specs.Rows.{NoSound, SoundRow};
 
@@ -13,18 +13,14 @@ pub(super) struct Parts<'a> {
     pub(super) noughts: usize,
     pub(super) entry: usize,
     pub(super) moved: &'a [u32],
+    ghost moved_inside: { IsTrue (within (length body.now) moved.now) },
 }
 
 // Whether each number is below the limit.
 fn all_below(numbers: &[u32], limit: usize) -> bool
     ensures { result ≡ within limit numbers.now }
 {
-    for number in numbers {
-        if *number as usize >= limit {
-            return false;
-        }
-    }
-    true
+    numbers.iter().all(|&number| (number as usize) < limit)
 }
 
 // The parts of a sound image's row.

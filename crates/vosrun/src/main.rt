@@ -2,12 +2,9 @@
 // here is only what reads and prints.
 #![tactic(auto)]
 
-use anyhow::anyhow;
-use board::{
-    Setting, Settings, Started, defaults, fill, read_words, set_option, start, words_of_bytes,
-};
+use anyhow::{Context, anyhow, bail, ensure};
+use board::{SettingError, Settings, read_words, start, words_of_bytes};
 use processor::{Cpu, Event};
-use std::alloc::Global;
 use std::io::Read;
 use std::{env, fs, io};
 
@@ -39,66 +36,52 @@ enum Task {
 }
 
 fn read_arguments(rt: &HostRuntime) -> anyhow::Result<Task> {
-    let heap = rt.alloc();
-    let mut settings = defaults();
+    let mut settings = Settings::default();
     let mut image: Option<String> = None;
     let mut pending: Option<String> = None;
     for word in env::args(rt)?.skip(1) {
-        match pending.take() {
-            Some(name) => match set_option(settings, name.as_str(), word.as_str()) {
-                Setting::Set(more) => settings = more,
-                Setting::NoOption => return Err(anyhow!(format!(in heap;
-                    "there is no option {name}"
-                )?)),
-                Setting::NoNumber => return Err(anyhow!(format!(in heap;
-                    "{name}: {word} is no number below 4294967296"
-                )?)),
-            },
-            None => {
-                if word.as_str() == "--help" {
-                    return Ok(Task::Help);
-                } else if word.as_str().starts_with("--") {
-                    pending = Some(word);
-                } else if image.is_some() {
-                    return Err(anyhow!("more than one image is named"));
-                } else {
-                    image = Some(word);
-                }
-            }
+        if let Some(name) = pending.take() {
+            settings = settings
+                .with(name.as_str(), word.as_str())
+                .map_err(|error| match error {
+                    SettingError::NoOption => anyhow!("there is no option {name}"),
+                    SettingError::NoNumber => anyhow!("{name}: {word} is {error}"),
+                })?;
+        } else if word.as_str() == "--help" {
+            return Ok(Task::Help);
+        } else if word.as_str().starts_with("--") {
+            pending = Some(word);
+        } else if image.is_some() {
+            bail!("more than one image is named");
+        } else {
+            image = Some(word);
         }
     }
     if let Some(name) = pending {
-        return Err(anyhow!(format!(in heap; "{name}: there is no value")?));
+        bail!("{name}: there is no value");
     }
-    if settings.memory > MOST_MEMORY {
-        return Err(anyhow!("--memory: at most 1073741824 words can be addressed"));
-    }
-    match image {
-        Some(path) => Ok(Task::Run(path, settings)),
-        None => Err(anyhow!("no image is named; --help says how")),
-    }
+    ensure!(
+        settings.memory <= MOST_MEMORY,
+        "--memory: at most {MOST_MEMORY} words can be addressed"
+    );
+    let path = image.context("no image is named; --help says how")?;
+    Ok(Task::Run(path, settings))
 }
 
 fn read_image(rt: &HostRuntime, path: &str) -> anyhow::Result<Vec<u32>> {
-    let heap = rt.alloc();
-    let bytes = match fs::read(rt, path) {
-        Ok(bytes) => bytes,
-        Err(error) => return Err(anyhow!(format!(in heap; "{path}: {error}")?)),
-    };
-    match words_of_bytes(heap, bytes.as_slice())? {
-        Some(words) => Ok(words),
-        None => Err(anyhow!(format!(in heap; "{path}: its size is no multiple of 4 bytes")?)),
-    }
+    let bytes = fs::read(rt, path).map_err(|error| anyhow!("{path}: {error}"))?;
+    words_of_bytes(rt.alloc(), bytes.as_slice())?.context(format_args!(
+        "{path}: its size is no multiple of 4 bytes"
+    ))
 }
 
 fn read_input(rt: &HostRuntime) -> anyhow::Result<Vec<u32>> {
     let heap = rt.alloc();
     let mut text = Vec::new(heap);
     rt.stdin().read_to_end(&mut text)?;
-    match read_words(heap, text.as_slice())? {
-        Some(words) => Ok(words),
-        None => Err(anyhow!("standard input has something that is no number below 4294967296")),
-    }
+    read_words(heap, text.as_slice())?.context(
+        "standard input has something that is no number below 4294967296",
+    )
 }
 
 fn print_words(rt: &HostRuntime, words: &[u32]) -> io::Result<()> {
@@ -108,7 +91,9 @@ fn print_words(rt: &HostRuntime, words: &[u32]) -> io::Result<()> {
     Ok(())
 }
 
-// Runs to the end or until the steps are used up, and prints words as they come.
+// Runs to the end or until the steps are used up, and prints words as they come. Not inlined, so that the processor's loop has
+// the registers to itself.
+#[inline(never)]
 fn follow(
     rt: &HostRuntime,
     cpu: &mut Cpu,
@@ -141,19 +126,12 @@ fn run_image(
 ) -> anyhow::Result<()> {
     let mut memory = vec![in rt.alloc(); 0; settings.memory as usize]?;
     let mut registers = [0; 32];
-    let rest = fill(&mut registers, settings.fill);
-    fill(memory.as_mut_slice(), rest);
+    let rest = settings.fill.fill(&mut registers);
+    rest.fill(memory.as_mut_slice());
     let top = settings.top.unwrap_or(settings.memory);
     match start(image, settings.at, top, registers, memory.as_mut_slice()) {
-        Started::Ready(mut cpu) => follow(
-            rt,
-            &mut cpu,
-            memory.as_mut_slice(),
-            input,
-            settings.steps,
-        )?,
-        Started::Bad => println!(rt; "no image")?,
-        Started::Large => println!(rt; "too large")?,
+        Ok(mut cpu) => follow(rt, &mut cpu, memory.as_mut_slice(), input, settings.steps)?,
+        Err(refusal) => println!(rt; "{refusal}")?,
     }
     Ok(())
 }

@@ -1,15 +1,14 @@
--- `all_below`: one number tested, and the end of the list (Rows).
-use Rattle.std.proofs.Common.{sym, ◌∙◌, arith}
-use Rattle.std.proofs.lemmas.List.{at_drop_all}
+-- `all_below`: the library's test of each number is that of the definition.
+use Rattle.std.proofs.Common.{ℕ, Bool, ◌&&◌, ltb, refl, ◌∙◌, rules, tests}
+use Rattle.std.specs.List.{list_all}
+use Rattle.std.proofs.lemmas.Iterator.{YieldsList-from_slice}
+use Rattle.std.proofs.lemmas.Iterator.Search.{all_from_yields_List}
+use Rattle.std.proofs.lemmas.List.Recursion.{same_from_clauses}
 use Rattle.image.specs.Image.{within}
-use Rattle.image.proofs.Rows.{within_not, within_more}
 use Rattle.image.proofs.row.all_below.Goals as goal
 
-pub returns-then-number-limit : goal.returns-then-number-limit
-returns-then-number-limit c = sym (within_not c.args.limit c.args.numbers.now c.loop-number.number-index (omega arith) (omega arith)) ∙ c.loop-number.invariant
-
-pub loop-number-preserved : goal.loop-number-preserved
-loop-number-preserved c = sym (within_more c.args.limit c.args.numbers.now c.loop-number.number-index (omega arith) (omega arith)) ∙ c.loop-number.invariant
-
 pub returns : goal.returns
-returns c = sym (at_drop_all (within c.args.limit) c.args.numbers.now c.loop-number.number-index (omega arith)) ∙ c.loop-number.invariant
+returns c =
+    let below : ℕ → Bool = λ n. ltb n c.args.limit in
+    all_from_yields_List below _ _ c.all.result c.all.ensures.ran (YieldsList-from_slice c.args.numbers.now cc) (λ x b q k. search (rules, tests))
+    ∙ same_from_clauses (list_all below) (within c.args.limit) (λ n b. below n && b) refl (λ n ns. refl) (λ n ns. refl) c.args.numbers.now
