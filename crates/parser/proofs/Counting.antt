@@ -8,9 +8,9 @@ use Rattle.rows.specs.Row.{Wrote}
 use Rattle.rows.specs.Trees.{list_row}
 use Rattle.rows.proofs.Writing.{wrote-more, wrote_none}
 use Rattle.bodies.specs.Outcome.{Spent}
-use Rattle.bodies.proofs.Expressions.{bind-fail, bind-got}
+use Rattle.bodies.proofs.Expressions.{bind-got}
 use Rattle.pieces.specs.Seen.{Ate}
-use Rattle.parser.specs.Lists.{DidList, Listable}
+use Rattle.parser.specs.Lists.{DidList, Listable, Stands}
 use Rattle.parser.proofs.Patching.{list_row-on}
 
 -- from s the loop has come to r, past k elements: what M reads of s is what it read so far, before what it reads of r
@@ -70,12 +70,18 @@ module _ {A : Type 0} (M : List Name → Res (List A)) (row : A → List ℕ) wh
         few = omega arith;
       }
 
-  pub list_fail : {s r : List ℕ} {k : ℕ} {o p : Row} → FarList M row s r k o p → M (pieces gap r) ≡ fail → M (pieces gap s) ≡ fail
-  list_fail f e = f.is ∙ bind-fail _ e
-
   -- the same by an element that is listed
   pub listed_on : {s t r z : List ℕ} {k n : ℕ} {o p v : Row} (x : A) → FarList M row s t k o p → Listable n M row x t r → Ate (44 ∷ []) r z → Wrote p v (row x) → FarList M row s z (k + 1) o v
   listed_on {z = z} x f e a w = let i = e.less in let j = e.room in let l = a.less in let m = w.long in list_on x f (e.more z a) w (omega arith) (omega arith)
 
   pub listed_last : {s t r q : List ℕ} {k n : ℕ} {o p v : Row} (x : A) → length s ≤ 32768 → FarList M row s t k o p → Listable n M row x t r → Ate (n ∷ []) r q → Wrote p v (row x) → DidList 0 (M (pieces gap s)) row s q (k + 1) o v
   listed_last {q = q} x b f e a w = let i = e.less in let j = e.room in let l = a.less in let m = w.long in list_last x b f (e.last q a) w (omega arith) (omega arith)
+
+  -- the same by a part, and where none stands
+  pub part_on : {s r z : List ℕ} {k : ℕ} {o p v : Row} → FarList M row s r k o p → Stands M row r z p v → FarList M row s z (k + 1) o v
+  part_on f e = let i = e.on in list_on e.tree f e.is e.wrote e.within (omega arith)
+
+  pub part_done : {s r : List ℕ} {k : ℕ} {o p v : Row} → length s ≤ 32768 → FarList M row s r k o p → M (pieces gap r) ≡ got [] (pieces gap r) → Wrote p v [] → DidList 1 (M (pieces gap s)) row s r k o v
+  part_done {o = o} {v = v} b f e w =
+      let t = f.within in let l = w.long in
+      list_done b (record { front = f.front; is = f.is; wrote = subst (Wrote o v) (append-nil (list_row row f.front)) (wrote-more f.wrote w); num = f.num; few = f.few; within = omega arith }) e

@@ -19,11 +19,10 @@ use Rattle.rows.specs.Trees.{list_row, item_row, file_row}
 use Rattle.rows.proofs.Writing.{wrote-more}
 use Rattle.pieces.specs.Seen.{ate, is_no_name, Ate, AteName, no_piece}
 use Rattle.bodies.specs.Outcome.{Did}
-use Rattle.bodies.proofs.Expressions.{bind-fail, bind-got, not_same, eat-got, eat-fail, name-got, name-fail}
-use Rattle.parser.specs.Lists.{DidList}
+use Rattle.bodies.proofs.Expressions.{bind-fail, bind-got, not_same, eat-got, name-got, name-fail}
+use Rattle.parser.specs.Lists.{DidList, Stands}
 use Rattle.parser.specs.Programs.{file_of, ReadAs, Unread}
 use Rattle.parser.proofs.Patching.{patched}
-use Rattle.parser.proofs.Counting.{FarList, list_on, list_fail}
 
 -- items
 abbrev pub its : List Name → Res (List Item)
@@ -43,21 +42,15 @@ its-rest : (s : List Name) → no_piece s ≡ false → ate k_file s ≡ none �
 its-rest [] e f = let y : ◌≡◌ {A = ℕ} 0 1 = cc in absurd (omega arith)
 its-rest (w ∷ s) e f = rw (not_same w k_file s (same w k_file) refl f)
 
-pub its-on : {s r z : List ℕ} {k : ℕ} {o p v : Row} → FarList its item_row s r k o p → no_piece (pieces gap r) ≡ false → ate k_file (pieces gap r) ≡ none → Did 0 (item (pieces gap r)) item_row r z p v → FarList its item_row s z (k + 1) o v
-its-on {r = r} f e g d = let n = d.on in list_on its item_row d.tree f (items-is (pieces gap r) ∙ its-rest (pieces gap r) e g ∙ bind-got _ d.tree _ d.is) d.wrote d.within (omega arith)
+pub its-stands : {t r : List ℕ} {o p : Row} → no_piece (pieces gap t) ≡ false → ate k_file (pieces gap t) ≡ none → Did 0 (item (pieces gap t)) item_row t r o p → Stands its item_row t r o p
+its-stands {t} e g d = let n = d.on in record { tree = d.tree; is = items-is (pieces gap t) ∙ its-rest (pieces gap t) e g ∙ bind-got _ d.tree _ d.is; wrote = d.wrote; within = d.within; on = omega arith }
 
-pub its-fail : {s r : List ℕ} {k : ℕ} {o p : Row} → FarList its item_row s r k o p → no_piece (pieces gap r) ≡ false → ate k_file (pieces gap r) ≡ none → item (pieces gap r) ≡ fail → its (pieces gap s) ≡ fail
-its-fail {r = r} f e g h = list_fail its item_row f (items-is (pieces gap r) ∙ its-rest (pieces gap r) e g ∙ bind-fail _ h)
+pub its-fail : (s : List Name) → no_piece s ≡ false → ate k_file s ≡ none → item s ≡ fail → its s ≡ fail
+its-fail s e g h = items-is s ∙ its-rest s e g ∙ bind-fail _ h
 
 -- a file
 pub file-no-name : (s : List Name) → is_no_name s ≡ true → file_of s ≡ fail
 file-no-name s e = name-fail s _ e
-
-pub file_open : {t r : List ℕ} (x : Name) → AteName x t r → ate t_semi (pieces gap r) ≡ none → file_of (pieces gap t) ≡ fail
-file_open {r = r} x a e = name-got x _ a ∙ eat-fail t_semi (pieces gap r) _ e
-
-pub file-fail : {t r q : List ℕ} (x : Name) → AteName x t r → Ate t_semi r q → its (pieces gap q) ≡ fail → file_of (pieces gap t) ≡ fail
-file-fail x a b e = name-got x _ a ∙ eat-got t_semi _ b ∙ bind-fail _ e
 
 pub file-did : {t r₁ r₂ r₃ : List ℕ} {k : ℕ} {o p₁ p₂ p₃ p₄ : Row} (x : Name) → AteName x t r₁ → Ate t_semi r₁ r₂ → Wrote o p₁ (named x) → Wrote p₁ p₂ (0 ∷ []) → DidList 1 (its (pieces gap r₂)) item_row r₂ r₃ k p₂ p₃ → Patched p₃ p₄ p₁.len k → Did 0 (file_of (pieces gap t)) file_row t r₃ o p₄
 file-did {k = k} {o = o} {p₁ = p₁} {p₄ = p₄} x a b w₁ w₂ d g =
@@ -109,14 +102,14 @@ files-rest : (s : List Name) → no_piece s ≡ false → ate k_file s ≡ none 
 files-rest [] e f = let y : ◌≡◌ {A = ℕ} 0 1 = cc in absurd (omega arith)
 files-rest (w ∷ s) e f = rw (not_same w k_file s (same w k_file) refl f)
 
-pub files-stop : {s r : List ℕ} {k : ℕ} {o p : Row} → FarList files file_row s r k o p → no_piece (pieces gap r) ≡ false → ate k_file (pieces gap r) ≡ none → files (pieces gap s) ≡ fail
-files-stop {r = r} f e g = list_fail files file_row f (files-is (pieces gap r) ∙ files-rest (pieces gap r) e g)
+pub files-stop : (s : List Name) → no_piece s ≡ false → ate k_file s ≡ none → files s ≡ fail
+files-stop s e g = files-is s ∙ files-rest s e g
 
-pub files-on : {s r q z : List ℕ} {k : ℕ} {o p v : Row} → FarList files file_row s r k o p → Ate k_file r q → Did 0 (file_of (pieces gap q)) file_row q z p v → FarList files file_row s z (k + 1) o v
-files-on f a d = let u = d.within in let l = a.less in let n = d.on in list_on files file_row d.tree f (files-one a ∙ bind-got _ d.tree _ d.is) d.wrote (omega arith) (omega arith)
+pub file-stands : {t r q : List ℕ} {o p : Row} → Ate k_file t r → Did 0 (file_of (pieces gap r)) file_row r q o p → Stands files file_row t q o p
+file-stands a d = let u = d.within in let l = a.less in let n = d.on in record { tree = d.tree; is = files-one a ∙ bind-got _ d.tree _ d.is; wrote = d.wrote; within = omega arith; on = omega arith }
 
-pub files-fail : {s r q : List ℕ} {k : ℕ} {o p : Row} → FarList files file_row s r k o p → Ate k_file r q → file_of (pieces gap q) ≡ fail → files (pieces gap s) ≡ fail
-files-fail f a e = list_fail files file_row f (files-one a ∙ bind-fail _ e)
+pub files-fail : {t r : List ℕ} → Ate k_file t r → file_of (pieces gap r) ≡ fail → files (pieces gap t) ≡ fail
+files-fail a e = files-one a ∙ bind-fail _ e
 
 -- a whole text
 joined : (a b : Bool) → T a → T b → T (a && b)

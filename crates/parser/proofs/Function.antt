@@ -1,6 +1,5 @@
 -- A function from its parts: its names as one list, its three counts and its length set at the end.
 use Rattle.std.proofs.Common.{◌≡◌, ℕ, ◌+◌, ◌-◌, true, List, [], ◌∷◌, ◌++◌, length, sym, refl, ap, ◌∙◌, subst, ap₂, append_assoc, arith}
-use mathlib.Core.Option.{none}
 use Rattle.language.specs.Syntax.{Name, Param, Arr, Block, i_fn}
 use Rattle.grammar.specs.Text.{pieces, gap, t_lp, t_lc}
 use Rattle.grammar.specs.Parse.{fail}
@@ -11,9 +10,9 @@ use Rattle.rows.specs.Has.{named}
 use Rattle.rows.specs.Nodes.{block_row}
 use Rattle.rows.specs.Trees.{list_row, map_list, local_row, of_param, of_var, of_array, rest_row, item_row}
 use Rattle.rows.proofs.Writing.{wrote-more}
-use Rattle.pieces.specs.Seen.{ate, is_no_name, Ate, AteName}
+use Rattle.pieces.specs.Seen.{is_no_name, Ate, AteName}
 use Rattle.bodies.specs.Outcome.{Did}
-use Rattle.bodies.proofs.Expressions.{bind-got, name-got, name-fail, eat-got, eat-fail}
+use Rattle.bodies.proofs.Expressions.{bind-got, name-got, name-fail, eat-got}
 use Rattle.parser.specs.Lists.{DidList, name_row, param_row, array_row}
 use Rattle.parser.proofs.Patching.{patched_3, closed}
 
@@ -64,6 +63,3 @@ fn-did {i = i} {j = j} {k = k} {p₁ = p₁} x n a w₁ w₂ ps b vs as₁ bs w�
 
 pub fn-no-name : (s : List Name) → is_no_name s ≡ true → it_by h_fn s ≡ fail
 fn-no-name s e = name-fail s _ e
-
-pub fn_open : {t r : List ℕ} (x : Name) → AteName x t r → ate t_lp (pieces gap r) ≡ none → it_by h_fn (pieces gap t) ≡ fail
-fn_open {r = r} x a e = name-got x _ a ∙ eat-fail t_lp (pieces gap r) _ e

@@ -4,7 +4,7 @@ use mathlib.Core.Option.{Option, some, none}
 use mir.Val.{bool_byte}
 use Rattle.language.specs.Words.{bit}
 use Rattle.language.specs.Syntax.{pick, opt, Name, same, i_word, i_arr, i_data, i_table, i_use}
-use Rattle.grammar.specs.Text.{pieces, gap, t_semi, t_colon, t_gets, k_var, k_array, k_bytes, k_table, k_use, k_fn}
+use Rattle.grammar.specs.Text.{pieces, gap, t_semi, t_gets, k_var, k_array, k_bytes, k_table, k_use, k_fn}
 use Rattle.grammar.specs.Parse.{Res, fail, got, bind, eat}
 use Rattle.grammar.specs.ParseAll.{names_in, in_quotes, size, text_to, array_it, bytes_it, it_by, Head, h_var, h_array, h_bytes, h_table, h_use, h_fn, head_of, item}
 use Rattle.rows.specs.declared.row.Row.{Row}
@@ -17,7 +17,7 @@ use Rattle.pieces.specs.declared.refused.Refused.{Refused}
 use Rattle.pieces.specs.Seen.{ate, is_no_name, Ate, AteName}
 use Rattle.bodies.specs.Outcome.{Did, Parsed}
 use Rattle.bodies.proofs.Statements.{eat-map}
-use Rattle.bodies.proofs.Expressions.{did_more, bind-got, not_same, eat-got, eat-fail, name-got, name-fail}
+use Rattle.bodies.proofs.Expressions.{did_more, bind-got, not_same, eat-got, name-got, name-fail}
 use Rattle.parser.specs.Lists.{DidList, name_row, Sized, values_in}
 use Rattle.parser.specs.Programs.{array_head, sized_in, data_in, listed_item, listed_in}
 use Rattle.parser.proofs.Patching.{patched, patched_next, closed}
@@ -36,16 +36,6 @@ no-name-table s e = name-fail s _ e
 
 pub no-name_use : (s : List Name) → is_no_name s ≡ true → it_by h_use s ≡ fail
 no-name_use s e = name-fail s _ e
-
--- no sign behind the name
-pub var_open : {t r : List ℕ} (x : Name) → AteName x t r → ate t_semi (pieces gap r) ≡ none → it_by h_var (pieces gap t) ≡ fail
-var_open {r = r} x a e = name-got x _ a ∙ eat-fail t_semi (pieces gap r) _ e
-
-pub table_open : {t r : List ℕ} (x : Name) → AteName x t r → ate t_gets (pieces gap r) ≡ none → it_by h_table (pieces gap t) ≡ fail
-table_open {r = r} x a e = name-got x _ a ∙ eat-fail t_gets (pieces gap r) _ e
-
-pub use_open : {t r : List ℕ} (x : Name) → AteName x t r → ate t_colon (pieces gap r) ≡ none → it_by h_use (pieces gap t) ≡ fail
-use_open {r = r} x a e = name-got x _ a ∙ eat-fail t_colon (pieces gap r) _ e
 
 -- a word
 pub var-did : {t r q : List ℕ} {o p v : Row} (x : Name) → AteName x t r → Ate t_semi r q → Wrote o p (0 ∷ 0 ∷ named x) → Patched p v (o.len + 1) (p.len - o.len - 2) → Did 0 (it_by h_var (pieces gap t)) item_row t q o v
@@ -72,12 +62,6 @@ listed-did {k = k} {o = o} {p₄ = p₄} used x n e w₁ w₂ d g h =
     row : (ys : List Name) (p : Row) {q : Row} (b : Bool) → n ≡ pick b 5 3 → Wrote o p (n ∷ 0 ∷ (named x ++ (length ys ∷ list_row named ys))) → Patched p q (o.len + 1) (p.len - o.len - 2) → Wrote o q (item_row (listed_item b x ys))
     row ys p true f w v = closed (i_use x ys) _ refl (subst (λ (m : ℕ). Wrote o p (m ∷ 0 ∷ (named x ++ (length ys ∷ list_row named ys)))) f w) v
     row ys p false f w v = closed (i_table x ys) _ refl (subst (λ (m : ℕ). Wrote o p (m ∷ 0 ∷ (named x ++ (length ys ∷ list_row named ys)))) f w) v
-
-pub table-is : {t r q : List ℕ} (x : Name) → AteName x t r → Ate t_gets r q → it_by h_table (pieces gap t) ≡ listed_in false x (pieces gap q)
-table-is x a b = name-got x _ a ∙ eat-got t_gets _ b
-
-pub use_is : {t r q : List ℕ} (x : Name) → AteName x t r → Ate t_colon r q → it_by h_use (pieces gap t) ≡ listed_in true x (pieces gap q)
-use_is x a b = name-got x _ a ∙ eat-got t_colon _ b
 
 -- arrays with values
 pub byte_is : (w : Bool) → bool_byte w ≡ bit w

@@ -1,25 +1,23 @@
 -- Lists of names, of numbers, of variables and of arrays, against the model parser.
-use Rattle.std.proofs.Common.{◌≡◌, ℕ, ◌+◌, ◌≤◌, Bool, true, false, not, List, [], ◌∷◌, ◌++◌, length, Ok, Err, Result, MatchResult, refl, ap, ◌∙◌, subst, arith, Bor}
-use mathlib.Core.Option.{Option, some, none}
-use Rattle.language.specs.Syntax.{pick, opt, Name, same, k_arr, Arr}
-use Rattle.grammar.specs.Text.{pieces, gap, is_name, t_semi, t_comma, t_lb, t_rb, k_array, k_bytes, k_var}
-use Rattle.grammar.specs.Parse.{Res, fail, got, bind, eat, num_of}
-use Rattle.grammar.specs.ParseAll.{size, names_in, nums_in, in_quotes, eat_num, vars_in, arr, arrs_as, arrs_step, again}
+use Rattle.std.proofs.Common.{◌≡◌, ℕ, ◌+◌, ◌≤◌, Bool, true, false, not, List, [], ◌∷◌, length, Ok, Err, Result, MatchResult, refl, ap, ◌∙◌, arith, Bor}
+use mathlib.Core.Option.{none}
+use Rattle.language.specs.Syntax.{pick, Name, same, Arr}
+use Rattle.grammar.specs.Text.{pieces, gap, is_name, t_semi, t_comma, k_array, k_bytes, k_var}
+use Rattle.grammar.specs.Parse.{Res, fail, got, bind}
+use Rattle.grammar.specs.ParseAll.{size, names_in, vars_in, arr, arrs_as, arrs_step, again}
 use Rattle.grammar.proofs.Equations.{arrs-is}
 use Rattle.rows.specs.declared.row.Row.{Row}
 use Rattle.rows.specs.Row.{Wrote}
-use Rattle.rows.specs.Has.{named}
 use Rattle.rows.specs.Nodes.{num_row}
-use Rattle.rows.specs.Trees.{kind_no, list_row}
+use Rattle.rows.specs.Trees.{list_row}
 use Rattle.rows.proofs.Writing.{wrote_none}
 use Rattle.pieces.specs.declared.refused.Refused.{Refused}
 use Rattle.pieces.specs.Refusing.{Left}
-use Rattle.pieces.specs.Seen.{ate, is_no_name, Ate, AteName, no_num, AteNum, no_text, AteText}
-use Rattle.bodies.specs.Outcome.{Spent, Did}
-use Rattle.bodies.proofs.Expressions.{bind-fail, bind-got, not_same, name-got, name-fail, eat-got, eat-fail}
-use Rattle.parser.specs.Lists.{DidList, Listed, Listable, name_row, array_row, Sized, quoted_in}
+use Rattle.pieces.specs.Seen.{ate, is_no_name, Ate, AteName, AteText}
+use Rattle.bodies.specs.Outcome.{Did}
+use Rattle.bodies.proofs.Expressions.{bind-got, not_same, name-fail, eat-got}
+use Rattle.parser.specs.Lists.{DidList, Listed, Listable, Stands, name_row, array_row, Sized, quoted_in}
 use Rattle.parser.proofs.Patching.{text_long}
-use Rattle.parser.proofs.Counting.{FarList, list_on, list_fail}
 
 -- names
 pub names_comma : {t r q : List ℕ} (x : Name) → AteName x t r → Ate t_comma r q → names_in (pieces gap t) ≡ bind (names_in (pieces gap q)) (λ xs z. got (x ∷ xs) z)
@@ -65,27 +63,6 @@ pub names_read : (l : Bool) (t : List ℕ) (res : Result (Bor (List ℕ) × Bor 
 names_read l t (Ok p) a = (name_listable l p.0.now a, a.short)
 names_read l t (Err e) a = names-no (pieces gap t) a.0
 
--- numbers
-pub nums_comma : {t r q : List ℕ} (n : ℕ) → AteNum n t r → Ate t_comma r q → nums_in (pieces gap t) ≡ bind (nums_in (pieces gap q)) (λ ns z. got (n ∷ ns) z)
-nums_comma n a b = ap nums_in (a.said ∙ ap (λ l. a.word ∷ l) b.said) ∙ rw a.is
-
-pub nums-semi : {t r q : List ℕ} (n : ℕ) → AteNum n t r → Ate t_semi r q → nums_in (pieces gap t) ≡ got (n ∷ []) (pieces gap q)
-nums-semi n a b = ap nums_in (a.said ∙ ap (λ l. a.word ∷ l) b.said) ∙ rw a.is
-
-nums-rest : (x : Name) (n : ℕ) (s : List Name) → num_of x ≡ some n → ate t_semi s ≡ none → ate t_comma s ≡ none → nums_in (x ∷ s) ≡ fail
-nums-rest x n [] h a b = refl
-nums-rest x n (w ∷ s) h a b = let e = not_same w t_comma s (same w t_comma) refl b in let f = not_same w t_semi s (same w t_semi) refl a in rw (h, e, f)
-
-pub nums-stop : {t r : List ℕ} (n : ℕ) → AteNum n t r → ate t_semi (pieces gap r) ≡ none → ate t_comma (pieces gap r) ≡ none → nums_in (pieces gap t) ≡ fail
-nums-stop {t} {r} n a e f = ap nums_in a.said ∙ nums-rest a.word n (pieces gap r) a.is e f
-
-pub opt-no : {A C : Type 0} (o : Option A) (k : A → Res C) → opt o true (λ m. false) ≡ true → opt o fail k ≡ fail
-opt-no none k f = refl
-opt-no (some n) k f = let y : ◌≡◌ {A = ℕ} 0 1 = cc in absurd (omega arith)
-
-pub num-spent : {t r q : List ℕ} {o p : Row} (n : ℕ) (y : Name) → AteNum n t r → Ate y r q → Wrote o p (num_row n) → Spent 0 t q o p
-num-spent n y a b w = let l = w.long in let i = a.less in let k = b.less in omega arith
-
 -- variables
 vars-rest : (s : List Name) → ate k_var s ≡ none → vars_in s ≡ got [] s
 vars-rest [] e = refl
@@ -106,49 +83,14 @@ vars-some o p (Err y) a d = vars-is a ∙ d
 pub size-got : {C : Type 0} {t r : List ℕ} (n : ℕ) (k : ℕ → List Name → Res C) → Sized n t r → size (pieces gap t) k ≡ k n (pieces gap r)
 size-got n k s = rw (s.said, s.is)
 
-eat-no : {A C : Type 0} (w : Name) (s : List Name) (f : List Name → Res A) (g : List Name → Res C) → ((r : List Name) → f r ≡ fail → g r ≡ fail) → eat w s f ≡ fail → eat w s g ≡ fail
-eat-no w [] f g h e = refl
-eat-no w (x ∷ s) f g h e = go (same x w) e
-  where
-    go : (b : Bool) → pick b (f s) fail ≡ fail → pick b (g s) fail ≡ fail
-    go true q = h s q
-    go false q = refl
-
-num-no : {A C : Type 0} (s : List Name) (f : ℕ → List Name → Res A) (g : ℕ → List Name → Res C) → ((n : ℕ) (r : List Name) → f n r ≡ fail → g n r ≡ fail) → eat_num s f ≡ fail → eat_num s g ≡ fail
-num-no [] f g h e = refl
-num-no (x ∷ s) f g h e = go (num_of x) e
-  where
-    go : (o : Option ℕ) → opt o fail (λ n. f n s) ≡ fail → opt o fail (λ n. g n s) ≡ fail
-    go none q = refl
-    go (some n) q = h n s q
-
-pub size-fail : {C : Type 0} (s : List Name) (k : ℕ → List Name → Res C) → size s (λ n r. got n r) ≡ fail → size s k ≡ fail
-size-fail s k e = eat-no t_lb s _ _ (λ s₂ e₂. num-no s₂ _ _ (λ n s₃ e₃. eat-no t_rb s₃ _ _ (λ s₄ e₄. eat-no t_semi s₄ _ _ (λ s₅ e₅. let y : ◌≡◌ {A = ℕ} 0 1 = cc in absurd (omega arith)) e₄) e₃) e₂) e
-
--- an array
-pub arr-did : {t r q : List ℕ} {o p : Row} (b : Bool) (x : Name) (n k : ℕ) → AteName x t r → Sized n r q → k ≡ kind_no (k_arr b) → Wrote o p (k ∷ (num_row n ++ named x)) → Did 0 (arr b (pieces gap t)) array_row t q o p
-arr-did {o = o} {p = p} b x n k a c g w =
-    let i = a.less in let j = a.some in let l = w.long in let m = c.less in
-    record { tree = record { name = x; wide = b; size = n }; is = name-got x _ a ∙ size-got n _ c; wrote = subst (λ (y : ℕ). Wrote o p (y ∷ (num_row n ++ named x))) g w; within = omega arith; on = omega arith }
-
 pub arr-no-name : (b : Bool) (s : List Name) → is_no_name s ≡ true → arr b s ≡ fail
 arr-no-name b s e = name-fail s _ e
-
-pub arr-no-size : {t r : List ℕ} (b : Bool) (x : Name) → AteName x t r → size (pieces gap r) (λ n z. got n z) ≡ fail → arr b (pieces gap t) ≡ fail
-arr-no-size {r = r} b x a e = name-got x _ a ∙ size-fail (pieces gap r) _ e
 
 -- a text for values
 pub text_did : {t r q : List ℕ} {o p : Row} (w : List ℕ) → length t ≤ 32768 → AteText w t r → Ate t_semi r q → Wrote o p (list_row num_row w) → DidList 0 (quoted_in (pieces gap t)) num_row t q (length w) o p
 text_did w h a b e =
     let i = a.less in let j = b.less in let l = e.long in let u = text_long w in
     record { did = record { tree = w; is = ap quoted_in a.said ∙ eat-got t_semi _ b; wrote = e; within = omega arith; on = omega arith }; num = refl; few = omega arith }
-
-pub text_no : (s : List Name) → no_text s ≡ true → quoted_in s ≡ fail
-text_no [] e = refl
-text_no (w ∷ s) e = opt-no (in_quotes w) _ e
-
-pub text_open : {t r : List ℕ} (w : List ℕ) → AteText w t r → ate t_semi (pieces gap r) ≡ none → quoted_in (pieces gap t) ≡ fail
-text_open {r = r} w a e = ap quoted_in a.said ∙ eat-fail t_semi (pieces gap r) _ e
 
 -- arrays
 abbrev pub arrs : List Name → Res (List Arr)
@@ -167,8 +109,5 @@ arrs-rest (w ∷ s) a b = let e = not_same w k_array s (same w k_array) refl a i
 pub arrs-end : (t : List ℕ) → ate k_array (pieces gap t) ≡ none → ate k_bytes (pieces gap t) ≡ none → arrs (pieces gap t) ≡ got [] (pieces gap t)
 arrs-end t a b = arrs-is (pieces gap t) ∙ arrs-rest (pieces gap t) a b
 
-pub arrs-on : {s r q z : List ℕ} {k : ℕ} {o p v : Row} (w : Name) (b : Bool) → FarList arrs array_row s r k o p → Ate w r q → arrs (pieces gap r) ≡ arrs_as arrs b (pieces gap q) → Did 0 (arr b (pieces gap q)) array_row q z p v → FarList arrs array_row s z (k + 1) o v
-arrs-on w b f a e d = let u = d.within in let l = a.less in let n = d.on in list_on arrs array_row d.tree f (e ∙ bind-got _ d.tree _ d.is) d.wrote (omega arith) (omega arith)
-
-pub arrs-fail : {s r : List ℕ} {k : ℕ} {o p : Row} (q : List ℕ) (b : Bool) → FarList arrs array_row s r k o p → arrs (pieces gap r) ≡ arrs_as arrs b (pieces gap q) → arr b (pieces gap q) ≡ fail → arrs (pieces gap s) ≡ fail
-arrs-fail q b f e h = list_fail arrs array_row f (e ∙ bind-fail _ h)
+pub arr-stands : {t r q : List ℕ} {o p : Row} (w : Name) (b : Bool) → Ate w t r → arrs (pieces gap t) ≡ arrs_as arrs b (pieces gap r) → Did 0 (arr b (pieces gap r)) array_row r q o p → Stands arrs array_row t q o p
+arr-stands w b a e d = let u = d.within in let l = a.less in let n = d.on in record { tree = d.tree; is = e ∙ bind-got _ d.tree _ d.is; wrote = d.wrote; within = omega arith; on = omega arith }

@@ -1,6 +1,6 @@
 -- Words that are set after others were written behind them: a count, three counts, an item's length.
 use Rattle.std.proofs.Common.{◌≡◌, ℕ, ◌+◌, ◌-◌, ◌*◌, ◌<◌, ◌≤◌, List, [], ◌∷◌, ◌++◌, length, get_or, take, sym, refl, ap, ◌∙◌, subst, append_assoc, append-nil, arith, length-append}
-use Rattle.std.proofs.lemmas.List.{take_more, take_all, length-take-le}
+use Rattle.std.proofs.lemmas.List.{take_more, length-take-le}
 use Rattle.language.specs.Syntax.{Item}
 use Rattle.rows.specs.declared.row.Row.{Row}
 use Rattle.rows.specs.Row.{Wrote, Patched}
@@ -47,9 +47,6 @@ list_row-on row (x ∷ xs) y = ap (λ l. row x ++ l) (list_row-on row xs y) ∙ 
 -- the bytes of a text
 pub text-more : {o p q : Row} (w : List ℕ) (i : ℕ) → i < length w → Wrote o p (list_row num_row (take i w)) → Wrote p q (num_row (get_or w i 0)) → Wrote o q (list_row num_row (take (i + 1) w))
 text-more {o} {p} {q} w i h f g = subst (Wrote o q) (sym (ap (list_row num_row) (take_more w i 0 h) ∙ list_row-on num_row (take i w) (get_or w i 0))) (wrote-more f g)
-
-pub text_all : {o q : Row} (w : List ℕ) (i : ℕ) → length w ≤ i → Wrote o q (list_row num_row (take i w)) → Wrote o q (list_row num_row w)
-text_all {o} {q} w i h g = subst (λ (v : List ℕ). Wrote o q (list_row num_row v)) (take_all i w h) g
 
 pub text_long : (ns : List ℕ) → length (list_row num_row ns) ≡ 2 * length ns
 text_long [] = refl

@@ -1,6 +1,7 @@
 -- What the code that reads lists answers: the list, its row, and how many there are. Rests on Outcome (bodies) and on the rows of trees.
-use Rattle.std.specs.Prelude.{◌≡◌, ℕ, ◌+◌, ◌*◌, ◌<◌, ◌≤◌, List, [], ◌∷◌, length, Bool, true, false, Result, MatchResult}
+use Rattle.std.specs.Prelude.{◌≡◌, ℕ, ◌+◌, ◌*◌, ◌<◌, ◌≤◌, List, [], ◌∷◌, length, Bool, true, false, Result, MatchOption, MatchResult}
 use Rattle.std.specs.Borrow.{Bor}
+use Rattle.std.specs.declared.option.Option as std
 use Rattle.std.proofs.Math.Option.{some, none}
 use Rattle.language.specs.Syntax.{pick, opt, Name, Kind, k_word, k_arr, Param, Arr}
 use Rattle.grammar.specs.Text.{pieces, gap, t_lb, t_rb, t_semi}
@@ -13,7 +14,8 @@ use Rattle.rows.specs.Has.{named}
 use Rattle.rows.specs.Trees.{list_row, local_row, of_param, of_var, of_array}
 use Rattle.pieces.specs.declared.refused.Refused.{Refused}
 use Rattle.pieces.specs.Seen.{ate, Ate}
-use Rattle.bodies.specs.Outcome.{Did}
+use Rattle.rows.specs.Row.{Wrote}
+use Rattle.bodies.specs.Outcome.{Spent, Did}
 
 -- a list, with how many there are in it
 pub record DidList {A : Type 0} (d : ℕ) (m : Res (List A)) (row : A → List ℕ) (s r : List ℕ) (k : ℕ) (o p : Row) : Type 0 where
@@ -67,3 +69,15 @@ pub record Listable {A : Type 0} (end : ℕ) (M : List Name → Res (List A)) (r
   pub stop : ate (end ∷ []) (pieces gap r) ≡ none → ate (44 ∷ []) (pieces gap r) ≡ none → M (pieces gap t) ≡ fail
   pub less : length r + 1 ≤ length t
   pub room : length (row x) + 4 * length r ≤ 4 * length t + 4
+
+-- a part that stands first in a list that M reads, and was written
+pub record Stands {A : Type 0} (M : List Name → Res (List A)) (row : A → List ℕ) (t r : List ℕ) (o p : Row) : Type 0 where
+  pub tree : A
+  pub is : M (pieces gap t) ≡ bind (M (pieces gap r)) (λ xs q. got (tree ∷ xs) q)
+  pub wrote : Wrote o p (row tree)
+  pub within : Spent 0 t r o p
+  pub on : length r + 1 ≤ length t
+
+-- what is read and written of a part: one, or none where the list ends, or no list
+abbrev pub Parted : {A : Type 0} → (List Name → Res (List A)) → (A → List ℕ) → List ℕ → Row → Row → Result (std.Option (Bor (List ℕ))) Refused → Type 0
+Parted M row t o p r = MatchResult r (λ q. MatchOption q ((M (pieces gap t) ≡ got [] (pieces gap t)) × Wrote o p []) (λ rest. Stands M row t rest.now o p)) (λ e. M (pieces gap t) ≡ fail)

@@ -1,4 +1,4 @@
-// Lists: elements of one kind with commas between, up to a sign. Names, numbers and parameters are read by one function.
+// Lists: elements of one kind with commas between, up to a sign; and parts of one kind, one behind another.
 ghost use Rattle.std.specs.Prelude.{◌≡◌, ℕ, ◌+◌, ◌≤◌, List, length, MatchResult};
 ghost use Rattle.language.specs.Syntax.{Name};
 ghost use Rattle.grammar.specs.Text.{pieces, gap};
@@ -6,7 +6,7 @@ ghost use Rattle.grammar.specs.Parse.{Res, fail};
 ghost use Rattle.rows.specs.Row.{Wrote};
 ghost use Rattle.bodies.specs.Outcome.{Ready};
 ghost use Rattle.pieces.specs.Seen.{Signy};
-ghost use Rattle.parser.specs.Lists.{Listed, Listable};
+ghost use Rattle.parser.specs.Lists.{Listed, Listable, Parted};
 
 use pieces::eating::eat;
 use pieces::refused::{Reason, Refused, refuse};
@@ -66,4 +66,35 @@ pub fn list_of<'a, E: Element<'a>>(
         count += 1;
         rest = after;
     }
+}
+
+// How a part of a text is read and written, if one stands first.
+pub trait Part<'a>: Copy {
+    ghost Tree: { Type 0 };
+
+    ghost words: { Tree → List ℕ };
+    // the parts as the model parser reads them
+    ghost list: { List Name → Res (List Tree) };
+
+    fn read(self, text: &'a [u8], out: &mut Row) -> Result<Option<&'a [u8]>, Refused>
+        requires ready { Ready 0 text.now out.old }
+        ensures { Parted list words text.now out.old out.new result };
+}
+
+// Parts one behind another, up to where none stands.
+pub fn all_of<'a, P: Part<'a>>(
+    text: &'a [u8],
+    part: P,
+    out: &mut Row,
+) -> Result<(u32, &'a [u8]), Refused>
+    requires ready { Ready 0 text.now out.old }
+    ensures { Listed 1 (P.list (pieces gap text.now)) P.words text.now out.old out.new result }
+{
+    let mut rest = text;
+    let mut count = 0;
+    while let Some(behind) = part.read(rest, out)? {
+        count += 1;
+        rest = behind;
+    }
+    Ok((count, rest))
 }

@@ -1,12 +1,13 @@
 // Files, and whole texts.
 ghost use Rattle.std.specs.Prelude.{◌+◌, ◌*◌, ◌≤◌, length, MatchResult};
+ghost use Rattle.language.specs.Syntax.{Item, File};
 ghost use Rattle.grammar.specs.Text.{pieces, gap};
 ghost use Rattle.grammar.specs.ParseAll.{again, items_step, files_step};
 ghost use Rattle.rows.specs.Trees.{item_row, file_row};
 ghost use Rattle.bodies.specs.Outcome.{Ready, Parsed};
-ghost use Rattle.parser.specs.Lists.{Listed};
 ghost use Rattle.parser.specs.Programs.{file_of, ReadAs, Unread};
 
+use super::element::{Part, all_of};
 use super::item::item;
 use pieces::eating::{at_end, eat_word, expect, expect_name};
 use pieces::flat::check_flat;
@@ -17,22 +18,25 @@ use rows::row::Row;
 // The largest text.
 const TEXT_BYTES: usize = 32768;
 
-// Items, up to the next file or the end.
-fn items<'a>(text: &'a [u8], out: &mut Row) -> Result<(u32, &'a [u8]), Refused>
-    requires ready { Ready 0 text.now out.old }
-    ensures { Listed 1 (again items_step (pieces gap text.now)) item_row text.now out.old out.new result }
-{
-    let mut rest = text;
-    let mut count = 0;
-    loop {
-        if at_end(rest) {
-            return Ok((count, rest));
+// The items of a file, up to the next file or the end.
+#[derive(Clone, Copy)]
+struct Items;
+
+impl<'a> Part<'a> for Items {
+    ghost Tree = { Item };
+
+    ghost words = { item_row };
+
+    ghost list = { again items_step };
+
+    fn read(self, text: &'a [u8], out: &mut Row) -> Result<Option<&'a [u8]>, Refused> {
+        if at_end(text) {
+            return Ok(None);
         }
-        if let Some(_) = eat_word(rest, words::FILE) {
-            return Ok((count, rest));
+        if let Some(_) = eat_word(text, words::FILE) {
+            return Ok(None);
         }
-        rest = item(rest, out)?;
-        count += 1;
+        Ok(Some(item(text, out)?))
     }
 }
 
@@ -46,27 +50,30 @@ fn file<'a>(text: &'a [u8], out: &mut Row) -> Result<&'a [u8], Refused>
     out.put_name(x);
     let at = out.len;
     out.put(0);
-    let (count, rest) = items(rest, out)?;
+    let (count, rest) = all_of(rest, Items, out)?;
     out.set(at, count);
     Ok(rest)
 }
 
 // Files, to the end.
-fn files<'a>(text: &'a [u8], out: &mut Row) -> Result<(u32, &'a [u8]), Refused>
-    requires ready { Ready 0 text.now out.old }
-    ensures { Listed 1 (again files_step (pieces gap text.now)) file_row text.now out.old out.new result }
-{
-    let mut rest = text;
-    let mut count = 0;
-    loop {
-        if at_end(rest) {
-            return Ok((count, rest));
+#[derive(Clone, Copy)]
+struct Files;
+
+impl<'a> Part<'a> for Files {
+    ghost Tree = { File };
+
+    ghost words = { file_row };
+
+    ghost list = { again files_step };
+
+    fn read(self, text: &'a [u8], out: &mut Row) -> Result<Option<&'a [u8]>, Refused> {
+        if at_end(text) {
+            return Ok(None);
         }
-        let Some(behind) = eat_word(rest, words::FILE) else {
-            return Err(refuse(rest, Reason::ExpectedFile));
+        let Some(rest) = eat_word(text, words::FILE) else {
+            return Err(refuse(text, Reason::ExpectedFile));
         };
-        rest = file(behind, out)?;
-        count += 1;
+        Ok(Some(file(rest, out)?))
     }
 }
 
@@ -81,7 +88,7 @@ pub fn parse(text: &[u8], out: &mut Row) -> Result<(), Refused>
     check_flat(text)?;
     let at = out.len;
     out.put(0);
-    let (count, _) = files(text, out)?;
+    let (count, _) = all_of(text, Files, out)?;
     out.set(at, count);
     Ok(())
 }

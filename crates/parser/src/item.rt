@@ -8,8 +8,8 @@ ghost use Rattle.rows.specs.Trees.{item_row};
 ghost use Rattle.bodies.specs.Outcome.{Ready, Parsed};
 ghost use Rattle.parser.specs.Programs.{array_head, sized_in, data_in, listed_in};
 
-use super::element::list_of;
-use super::list::{Names, arrays_of, params_of, size_of, values_to, vars_of};
+use super::element::{all_of, list_of};
+use super::list::{Arrays, Names, params_of, size_of, values_to, vars_of};
 use super::put::{close_item, open_item};
 use bodies::{body, put_num};
 use pieces::eating::{eat, eat_word, expect, expect_name};
@@ -132,7 +132,7 @@ fn function<'a>(text: &'a [u8], out: &mut Row) -> Result<&'a [u8], Refused>
     let (params, rest) = params_of(rest, out)?;
     let rest = expect(rest, b'{')?;
     let (vars, rest) = vars_of(rest, out)?;
-    let (arrays, rest) = arrays_of(rest, out)?;
+    let (arrays, rest) = all_of(rest, Arrays, out)?;
     let rest = body(rest, out)?;
     out.put(Tag::End as u32);
     out.set(at, params);

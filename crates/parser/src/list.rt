@@ -1,6 +1,6 @@
 // Lists of names, of numbers, of parameters and of arrays: each is read up to its end, and counted.
 ghost use Rattle.std.specs.Prelude.{◌≡◌, ℕ, ◌+◌, ◌≤◌, true, length, MatchResult};
-ghost use Rattle.language.specs.Syntax.{Name, k_arr, Param};
+ghost use Rattle.language.specs.Syntax.{Name, k_arr, Param, Arr};
 ghost use Rattle.grammar.specs.Text.{pieces, gap};
 ghost use Rattle.grammar.specs.Parse.{fail, got};
 ghost use Rattle.grammar.specs.ParseAll.{size, names_in, nums_in, arr, arrs_step, again, par_kind, pars_step, pars_of, vars_in};
@@ -11,7 +11,7 @@ ghost use Rattle.pieces.specs.Seen.{Signy};
 ghost use Rattle.bodies.specs.Outcome.{Ready, Parsed};
 ghost use Rattle.parser.specs.Lists.{Sized, quoted_in, values_in, Listed, name_row, array_row, param_row, kind_of, KindIs};
 
-use super::element::{Element, list_of};
+use super::element::{Element, Part, list_of};
 use super::put::{put_listed, put_local, put_text};
 use bodies::put_num;
 use pieces::eating::{eat, eat_word, expect, expect_name, expect_num, expect_text};
@@ -225,22 +225,23 @@ fn array<'a>(text: &'a [u8], wide: bool, out: &mut Row) -> Result<&'a [u8], Refu
 }
 
 // The arrays of a function.
-pub fn arrays_of<'a>(text: &'a [u8], out: &mut Row) -> Result<(u32, &'a [u8]), Refused>
-    requires ready { Ready 0 text.now out.old }
-    ensures { Listed 1 (again arrs_step (pieces gap text.now)) array_row text.now out.old out.new result }
-{
-    let mut rest = text;
-    let mut count = 0;
-    loop {
-        if let Some(behind) = eat_word(rest, words::ARRAY) {
-            rest = array(behind, true, out)?;
-            count += 1;
-        } else {
-            let Some(behind) = eat_word(rest, words::BYTES) else {
-                return Ok((count, rest));
-            };
-            rest = array(behind, false, out)?;
-            count += 1;
+#[derive(Clone, Copy)]
+pub struct Arrays;
+
+impl<'a> Part<'a> for Arrays {
+    ghost Tree = { Arr };
+
+    ghost words = { array_row };
+
+    ghost list = { again arrs_step };
+
+    fn read(self, text: &'a [u8], out: &mut Row) -> Result<Option<&'a [u8]>, Refused> {
+        if let Some(rest) = eat_word(text, words::ARRAY) {
+            return Ok(Some(array(rest, true, out)?));
         }
+        let Some(rest) = eat_word(text, words::BYTES) else {
+            return Ok(None);
+        };
+        Ok(Some(array(rest, false, out)?))
     }
 }
