@@ -1,5 +1,6 @@
 -- The tables and the code as lists.
-use Rattle.std.proofs.Common.{◌≡◌, ℕ, zero, suc, ◌+◌, ◌-◌, ◌<◌, ◌≤◌, not, List, [], ◌∷◌, ◌++◌, length, get_or, take, drop, sym, refl, ap, ◌∙◌, subst, ap₂, append-nil, add-zero, arith, length-append, length-drop, take-append-drop, length-take}
+use Rattle.std.proofs.Common.{◌≡◌, ℕ, Option, Some, None, MatchOption, ltb, lt-ltb, zero, suc, ◌+◌, ◌-◌, ◌<◌, ◌≤◌, not, List, [], ◌∷◌, ◌++◌, length, get_or, take, drop, sym, refl, ap, ◌∙◌, subst, ap₂, append-nil, add-zero, arith, length-append, length-drop, take-append-drop, length-take}
+use Rattle.std.specs.Bool.{then_some}
 use borrow.Rule.Slice.PartMut.{put_mid, post_of}
 use Rattle.std.proofs.lemmas.List.{take_all, drop-drop}
 use Rattle.rows.specs.Trees.{list_row}
@@ -19,11 +20,10 @@ use Rattle.lower.specs.Lower.{pro_width, fun_width, fun_row, entry_of, entry_in,
 use Rattle.lower.specs.Core.{Core}
 use Rattle.lower.proofs.RowPlaces.{fun_width-is}
 use Rattle.assembler.specs.declared.code.Code.{Code}
-use Rattle.assembler.specs.declared.extent.Extent.TheVariants.{Near}
 use Rattle.assembler.specs.declared.program.Program.{Program}
 use Rattle.assembler.specs.declared.program.Tables as tables
 use Rattle.assembler.specs.Emission.{reals, encoded, Put}
-use Rattle.assembler.specs.Tables.{starts, begins, all_starts, steps_in, FunctionsAt, Tabled}
+use Rattle.assembler.specs.Tables.{starts, begins, all_starts, steps_in, FunctionsAre, Tabled}
 use Rattle.assembler.specs.Assembled.{Given, Ready}
 use Rattle.assembler.proofs.Putting.{put_as, put_then, reals-words, reals-length, encoded-length}
 use Rattle.assembler.proofs.Emitting.{funs_real, starts-long}
@@ -74,7 +74,7 @@ entries_at m e k (suc g) a b =
 pub tabled : {m : MProg} {p : Program} {t : tables.Tables} → Given m p → Ready m t → Tabled m p.words t.entries.now
 tabled {m} {p} {t} g r = record { words = g.words; small = g.core.words; no_arrays = g.core.no_arrays; calls = entries_at m t.entries.now r.entries }
 
-pub functions-given : {m : MProg} {w : List ℕ} {main count : ℕ} → Core m main → w ≡ list_row fn_words (others m.funs) → count ≡ length (others m.funs) → FunctionsAt w 0 count (others m.funs)
+pub functions-given : {m : MProg} {w : List ℕ} {main count : ℕ} → Core m main → w ≡ list_row fn_words (others m.funs) → count ≡ length (others m.funs) → FunctionsAre w count (others m.funs)
 functions-given {m} {w} {main} {count} c e n = record {
   has = record { rest = []; is = e ∙ sym (append-nil (list_row fn_words (others m.funs))); inside = let l : length w ≡ length (list_row fn_words (others m.funs)) = ap length e in omega arith };
   long = n;
@@ -87,7 +87,7 @@ beginning m n e = reals 0 (l_num 5 2047 ∷ l_alui Addi 5 5 1 ∷ l_upr 5 ∷ []
 
 pub code-written : {m : MProg} {p : Program} {t : tables.Tables} {o q r : Code} {e : ℕ} → Given m p → Ready m t → o.here ≡ 0 → length o.words.now ≡ length (row_of m p.main) → e ≡ get_or t.entries.now p.main 0
     → Put o q (beginning m (o.here + 3) e)
-    → ((fs : List MFn) → Tabled m p.words t.entries.now → FunctionsAt p.steps.now 0 p.count fs → Each (FnFits m) fs → Has t.places.now 0 (all_starts m fs q.here) → Put q r (funs_real m fs q.here))
+    → ((fs : List MFn) → Tabled m p.words t.entries.now → FunctionsAre p.steps.now p.count fs → Each (FnFits m) fs → Has t.places.now 0 (all_starts m fs q.here) → Put q r (funs_real m fs q.here))
     → (r.words.ghost_name ≡ o.words.ghost_name) × (r.words.now ≡ words_of 0 (row_of m p.main))
 code-written {m} {p} {t} {o} {q} {r} {e} g k here long entry begun functions =
     let fs = others m.funs in
@@ -165,5 +165,14 @@ table-room {m} {main} {count} {n} c e h =
     let l = others-long m.funs (omega (arith, c.main_there)) in
     (omega (arith, l, e, h), omega (arith, e), omega (arith, l, e, h))
 
-pub near_size : {a b : ℕ} → Near a ≡ Near b → a ≡ b
-near_size {a} {b} e = cc
+pub none_some : {n : ℕ} {P : Type 0} → None ≡ Some n → P
+none_some e = absurd (subst (λ (o : Option ℕ). MatchOption o (Unit {0}) (λ _. ⊥)) e tt)
+
+pub some_same : {a b : ℕ} → Some a ≡ Some b → a ≡ b
+some_same e = cc
+
+-- a size, if every jump reaches
+pub reached : {n k : ℕ} {r : Option ℕ} → r ≡ then_some (ltb n 262144) n → Some n ≡ Some k → k < 262144 → r ≡ Some k
+reached {n} {k} {r} e s h =
+    let i = some_same s in
+    e ∙ (ap (λ b. then_some b n) (lt-ltb n 262144 (omega arith)) ∙ s)

@@ -14,7 +14,7 @@ routine f = record { params = f.params; arrays = 0; vars = f.vars; own = []; pla
 
 -- where functions begin, and the steps of the function at hand
 abbrev pub entry_at : Frame → ℕ → ℕ
-entry_at f g = slice_index f.entries.now g
+entry_at f g = slice_index f.tables.entries.now g
 
 abbrev pub step_place : Frame → ℕ → ℕ
-step_place f t = slice_index f.places.now (f.first + t)
+step_place f t = slice_index f.tables.places.now (f.first + t)

@@ -1,5 +1,5 @@
 -- Where functions and steps begin, as tables; and steps and functions as they stand in a row.
-use Rattle.std.specs.Prelude.{◌≡◌, ℕ, ◌+◌, ◌*◌, ◌<◌, ◌≤◌, true, List, [], ◌∷◌, ◌++◌, length, slice_index}
+use Rattle.std.specs.Prelude.{◌≡◌, ℕ, ◌+◌, ◌*◌, ◌<◌, ◌≤◌, true, List, [], ◌∷◌, ◌++◌, length, map, slice_index}
 use Rattle.language.specs.Words.{all}
 use Rattle.rows.specs.Trees.{list_row}
 use Rattle.rows.specs.Has.{Has}
@@ -31,24 +31,23 @@ abbrev pub steps_in : List MFn → ℕ
 steps_in [] = 0
 steps_in (f ∷ fs) = length f.code + steps_in fs
 
--- so many steps of stage 0 stand in the row w from a place on
-pub record StepsAt (w : List ℕ) (at count : ℕ) (ss : List Step) : Type 0 where
-  pub has : Has w at (list_row step_words ss)
-  pub long : count ≡ length ss
+-- steps of stage 0, by their words
+pub record StepsAre (steps : List (List ℕ)) (ss : List Step) : Type 0 where
+  pub is : steps ≡ map step_words ss
   pub core : Each (λ s. core_step s ≡ true) ss
 
--- and so many functions
-pub record FunctionsAt (w : List ℕ) (at count : ℕ) (fs : List MFn) : Type 0 where
-  pub has : Has w at (list_row fn_words fs)
+-- so many functions of stage 0 stand first in the row w
+pub record FunctionsAre (w : List ℕ) (count : ℕ) (fs : List MFn) : Type 0 where
+  pub has : Has w 0 (list_row fn_words fs)
   pub long : count ≡ length fs
   pub core : Each CoreFn fs
 
--- what was read is the head of this function
+-- what was read is this function
 pub record Head (r : Function) (f : MFn) : Type 0 where
   pub params : r.params ≡ f.params
   pub vars : r.vars ≡ f.vars
   pub places : r.places ≡ f.places
-  pub steps : r.steps ≡ length f.code
+  pub steps : r.steps.now ≡ map step_words f.code
 
 -- the code's view of a function is that of the lowering: steps begin at 'at'
 pub record Framed (F : Frame) (m : MProg) (f : MFn) (at : ℕ → ℕ) : Type 0 where

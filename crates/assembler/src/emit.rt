@@ -1,6 +1,6 @@
-// Writing instructions; registers are 1 (where to return to), 2 (2,048 above the frame), 3 (the stack's floor), 5, 6, 7 and 28 (for what is
-// worked out), 10 to 17 (arguments and environment calls).
+// Writing instructions.
 ghost use Rattle.std.specs.Prelude.{◌≡◌, ℕ, suc, ◌<◌, [], ◌∷◌, ◌++◌};
+ghost use Rattle.steps.specs.Fits.{Each};
 ghost use Rattle.processor.specs.Decode.{Regs};
 ghost use Rattle.lower.specs.Code.{rel, off};
 ghost use Rattle.lower.specs.Lower.{number as numbered, top, low};
@@ -8,14 +8,17 @@ ghost use Rattle.assembler.specs.Emission.{reals, Put};
 
 use crate::code::Code;
 use crate::place::{FramePlace, ImagePlace};
+use crate::register::STACK;
 use processor::instr::{Imm, Instr};
 use processor::lay_out_parts;
 
-// How far a word of the function is from register 2.
-fn offset(place: FramePlace) -> u32
-    ensures { result ≡ off (suc place.0) }
-{
-    place.0.wrapping_mul(4).wrapping_add(0xffff_f804)
+impl FramePlace {
+    // How far the word is from register 2.
+    fn offset(self) -> u32
+        ensures { result ≡ off (suc self.0) }
+    {
+        self.0.wrapping_mul(4).wrapping_add(0xffff_f804)
+    }
 }
 
 // A word of the function to a register.
@@ -24,7 +27,7 @@ pub fn load(register: u32, place: FramePlace) -> Instr
     ensures is { result ≡ Instr.Lw register 2 (off (suc place.0)) }
     ensures regs { Regs result }
 {
-    Instr::Lw(register, 2, offset(place))
+    Instr::Lw(register, STACK, place.offset())
 }
 
 // A register to a word of the function.
@@ -33,7 +36,7 @@ pub fn store(register: u32, place: FramePlace) -> Instr
     ensures is { result ≡ Instr.Sw 2 register (off (suc place.0)) }
     ensures regs { Regs result }
 {
-    Instr::Sw(2, register, offset(place))
+    Instr::Sw(STACK, register, place.offset())
 }
 
 // The upper 20 bits of a number, and what is added to them.
@@ -58,20 +61,14 @@ impl Code<'_> {
         }
     }
 
-    pub fn put2(&mut self, i: Instr, j: Instr)
-        requires { (Regs i) × (Regs j) }
-        ensures { Put self.old self.new (i ∷ j ∷ []) }
+    // Some instructions, one behind another.
+    pub fn put_all(&mut self, row: &[Instr])
+        requires { Each Regs row.now }
+        ensures { Put self.old self.new row.now }
     {
-        self.put(i);
-        self.put(j);
-    }
-
-    pub fn put3(&mut self, i: Instr, j: Instr, k: Instr)
-        requires { (Regs i) × ((Regs j) × (Regs k)) }
-        ensures { Put self.old self.new (i ∷ j ∷ k ∷ []) }
-    {
-        self.put2(i, j);
-        self.put(k);
+        for i in row {
+            self.put(*i);
+        }
     }
 
     // Any number to a register.
@@ -80,10 +77,10 @@ impl Code<'_> {
         ensures { Put self.old self.new (reals 0 (numbered register n)) }
     {
         let (high, low) = split(n);
-        self.put2(
+        self.put_all(&[
             Instr::Lui(register, high),
             Instr::OpImm(Imm::Addi, register, register, low),
-        );
+        ]);
     }
 
     // A jump; the register keeps where to go on.

@@ -9,61 +9,53 @@ ghost use Rattle.lower.specs.Lower.{lower, code_of, funs_row, entry_in};
 ghost use Rattle.lower.specs.Core.{core_step};
 ghost use Rattle.assembler.specs.Emission.{reals, Put};
 ghost use Rattle.assembler.specs.Frames.{bare, routine, entry_at, step_place};
-ghost use Rattle.assembler.specs.Tables.{all_starts, StepsAt, FunctionsAt, Framed, Tabled};
+ghost use Rattle.assembler.specs.Tables.{all_starts, StepsAre, FunctionsAre, Framed, Tabled};
 
 use crate::code::Code;
 use crate::frame::Frame;
-use crate::measure::{first_step, function_at, past_function};
-use middle::read::step_at;
+use crate::function::split_function;
+use crate::program::{Program, Tables};
+use middle::read::read_step;
 
 impl Code<'_> {
-    // The step at a place of the row.
-    fn step_from(&mut self, steps: &[u32], at: usize, f: Frame)
-        ensures { (s : MStep) → core_step s ≡ true → Has steps.now at (step_words s) → 4 * f.entry.words < all → Put self.old self.new (reals self.old.here (lower (entry_at f.entry) (step_place f.entry) (bare f.entry.words) (routine f.entry.function) self.old.here s)) }
+    // The step that these words are.
+    fn step_from(&mut self, words: &[u32; 5], f: Frame)
+        ensures { (s : MStep) → core_step s ≡ true → words.now ≡ step_words s → 4 * f.entry.words < all → Put self.old self.new (reals self.old.here (lower (entry_at f.entry) (step_place f.entry) (bare f.entry.words) (routine f.entry.function) self.old.here s)) }
     {
-        match step_at(steps, at) {
-            Some(step) => self.step(step, f),
-            None => {}
+        if let Some(step) = read_step(words) {
+            self.step(step, f);
         }
     }
 
-    // The steps of a function, from the first one's place in the row on.
-    fn steps_from(&mut self, steps: &[u32], at: usize, f: Frame)
-        ensures { (m : MProg) (g : MFn) (begin : ℕ → ℕ) (ss : List MStep) → Framed f.entry m g begin → StepsAt steps.now at f.entry.function.steps ss → Each (StepFits m g) ss → Put self.old self.new (reals self.old.here (code_of (entry_in m) begin m g ss self.old.here)) }
+    // The steps of the function at hand.
+    fn steps_of(&mut self, f: Frame)
+        ensures { (m : MProg) (g : MFn) (begin : ℕ → ℕ) (ss : List MStep) → Framed f.entry m g begin → StepsAre f.entry.function.steps.now ss → Each (StepFits m g) ss → Put self.old self.new (reals self.old.here (code_of (entry_in m) begin m g ss self.old.here)) }
     {
-        let mut next = at;
-        for i in 0..f.function.steps {
-            self.step_from(steps, next, f);
-            next = next.saturating_add(5);
+        for words in f.function.steps {
+            self.step_from(words, f);
         }
     }
 
-    // `count` functions, by the tables of where functions and steps begin.
-    pub fn functions<'t>(
-        &mut self,
-        steps: &[u32],
-        count: u32,
-        entries: &'t [u32],
-        places: &'t [u32],
-        words: u32,
-    )
-        ensures { (m : MProg) (fs : List MFn) → Tabled m words entries.now → FunctionsAt steps.now 0 count fs → Each (FnFits m) fs → Has places.now 0 (all_starts m fs self.old.here) → Put self.old self.new (reals self.old.here (funs_row (entry_in m) m fs self.old.here)) }
+    // The program's functions, by the tables of where functions and steps begin.
+    pub fn functions(&mut self, program: Program, tables: Tables)
+        ensures { (m : MProg) (fs : List MFn) → Tabled m program.entry.words tables.entry.entries.now → FunctionsAre program.entry.steps.now program.entry.count fs → Each (FnFits m) fs → Has tables.entry.places.now 0 (all_starts m fs self.old.here) → Put self.old self.new (reals self.old.here (funs_row (entry_in m) m fs self.old.here)) }
     {
-        let mut at = 0;
+        let mut rest = program.steps;
         let mut first = 0usize;
-        for i in 0..count {
-            let function = function_at(steps, at);
+        for i in 0..program.count {
+            let Some((function, behind)) = split_function(rest) else {
+                return;
+            };
             let frame = Frame {
-                entries,
-                places,
-                words,
+                tables,
+                words: program.words,
                 function,
                 first,
             };
             self.enter(function);
-            self.steps_from(steps, first_step(at), frame);
-            first = first.saturating_add(function.steps as usize);
-            at = past_function(at, function.steps);
+            self.steps_of(frame);
+            first = first.saturating_add(function.steps.len());
+            rest = behind;
         }
     }
 }

@@ -1,19 +1,17 @@
 // The image of a program's steps.
-ghost use Rattle.std.specs.Prelude.{◌≡◌, ℕ, ◌+◌, ◌<◌, ◌≤◌, List, [], ◌∷◌, ◌++◌, length, drop};
+ghost use Rattle.std.specs.Prelude.{◌≡◌, ℕ, ◌+◌, ◌<◌, ◌≤◌, List, [], ◌∷◌, ◌++◌, length, drop, IfSome};
 ghost use Rattle.rows.specs.Has.{Has};
 ghost use Rattle.steps.specs.Steps.{MFn, MProg};
 ghost use Rattle.lower.specs.Lower.{others, row_of, words_of, entry_of};
 ghost use Rattle.lower.specs.Core.{Core};
-ghost use Rattle.assembler.specs.declared.extent.Extent.TheVariants.{Near, Far};
-ghost use Rattle.assembler.specs.Tables.{begins, all_starts, steps_in, FunctionsAt};
+ghost use Rattle.assembler.specs.Tables.{begins, all_starts, steps_in, FunctionsAre};
 ghost use Rattle.assembler.specs.Assembled.{Given, Ready};
 
 use crate::code::Code;
-use crate::extent::Extent;
-use crate::look::look;
 use crate::measure::measure_functions;
 use crate::place::ImagePlace;
 use crate::program::{Program, Tables};
+use rows::read::word_at;
 use rows::row::Row;
 
 // The word that an image's row begins with.
@@ -22,10 +20,10 @@ const MARK: u32 = 19525;
 // No jump reaches over more words.
 const REACH: u32 = 262144;
 
-// Where each function and each step begins, one word each; and how far the code reaches.
-pub fn measure(steps: &[u32], count: u32, entries: &mut [u32], places: &mut [u32]) -> Extent
-    ensures near { elim result [ Near n ↦ n < 262144 | Far ↦ Unit {0} ] }
-    ensures is { (m : MProg) (fs : List MFn) → FunctionsAt steps.now 0 count fs → entry_of m fs 6 (length fs) < 262144 → 1 + length fs ≤ length entries.old → steps_in fs ≤ length places.old → (result ≡ Near (entry_of m fs 6 (length fs))) × Has entries.new 0 (0 ∷ begins m fs 6) × Has places.new 0 (all_starts m fs 6) }
+// Where each function and each step begins, one word each; and how many words of code there are, if every jump reaches.
+pub fn measure(program: Program, entries: &mut [u32], places: &mut [u32]) -> Option<u32>
+    ensures reached { IfSome result (λ n. n < 262144) }
+    ensures is { (m : MProg) (fs : List MFn) → FunctionsAre program.entry.steps.now program.entry.count fs → entry_of m fs 6 (length fs) < 262144 → 1 + length fs ≤ length entries.old → steps_in fs ≤ length places.old → (result ≡ Some (entry_of m fs 6 (length fs))) × Has entries.new 0 (0 ∷ begins m fs 6) × Has places.new 0 (all_starts m fs 6) }
 {
     let mut entry_row = Row {
         words: entries,
@@ -35,12 +33,8 @@ pub fn measure(steps: &[u32], count: u32, entries: &mut [u32], places: &mut [u32
         words: places,
         len: 0,
     };
-    let size = measure_functions(steps, count, &mut entry_row, &mut place_row);
-    if size < REACH {
-        Extent::Near(size)
-    } else {
-        Extent::Far
-    }
+    let size = measure_functions(program, &mut entry_row, &mut place_row)?;
+    (size < REACH).then_some(size)
 }
 
 // The words of the instructions.
@@ -52,14 +46,8 @@ fn write_code(program: Program, tables: Tables, body: &mut [u32])
         words: body,
         here: 0,
     };
-    code.begin(ImagePlace(look(tables.entries, program.main as usize)));
-    code.functions(
-        program.steps,
-        program.count,
-        tables.entries,
-        tables.places,
-        program.words,
-    );
+    code.begin(ImagePlace(word_at(tables.entries, program.main as usize)));
+    code.functions(program, tables);
 }
 
 // The header and the code.

@@ -9,11 +9,10 @@ ghost use Rattle.generator.specs.StepRows.{fn_words};
 ghost use Rattle.lower.specs.Lower.{others, code_words, image_of};
 ghost use Rattle.lower.specs.Core.{Core};
 ghost use Rattle.assembler.specs.Tables.{steps_in};
-ghost use Rattle.assembler.specs.Assembled.{Assembled};
+ghost use Rattle.assembler.specs.Assembled.{Given, Assembled};
 
 mod code;
 mod emit;
-mod extent;
 mod frame;
 mod function;
 mod functions;
@@ -22,45 +21,29 @@ mod look;
 mod measure;
 mod operator;
 mod place;
-mod program;
+pub mod program;
+mod register;
 mod sizes;
 mod stepping;
 
-use extent::Extent;
 use imaging::{measure, write_image};
 use program::{Program, Tables};
 
-// The image of a program's steps, if there is room for it: how many words it has. `steps` is the row of its functions but for function 0, `count`
-// how many they are, `words` how many words it has at the top. `work` is room for a word for each function and each step. Nothing of the image is
-// written before its size is known and there is room for it.
-pub fn assemble(
-    steps: &[u32],
-    count: u32,
-    words: u32,
-    main: u32,
-    work: &mut [u32],
-    image: &mut [u32],
-) -> Option<usize>
-    ensures { (m : MProg) → Core m main → steps.now ≡ list_row fn_words (others m.funs) → count ≡ length (others m.funs) → words ≡ m.words → steps_in (others m.funs) + length m.funs ≤ length work.old → Assembled (row (image_of m (code_words m main))) image.old image.new result }
+// The image of a program's steps, if there is room for it: how many words it has. `program.steps` is the row of its functions but for function 0.
+// `work` is room for a word for each function and each step. Nothing of the image is written before its size is known and there is room for it.
+pub fn assemble(program: Program, work: &mut [u32], image: &mut [u32]) -> Option<usize>
+    ensures { (m : MProg) → Given m program.entry → steps_in (others m.funs) + length m.funs ≤ length work.old → Assembled (row (image_of m (code_words m program.entry.main))) image.old image.new result }
 {
-    let functions = count as usize + 1;
+    let functions = program.count as usize + 1;
     if work.len() < functions {
         return None;
     }
     let (entries, places) = work.split_at_mut(functions);
-    let Extent::Near(size) = measure(steps, count, entries, places) else {
-        return None;
-    };
+    let size = measure(program, entries, places)?;
     let whole = 5 + size as usize;
     if image.len() < whole {
         return None;
     }
-    let program = Program {
-        steps,
-        count,
-        words,
-        main,
-    };
     write_image(program, Tables { entries, places }, size, image);
     Some(whole)
 }

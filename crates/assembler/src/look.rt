@@ -1,31 +1,26 @@
 // Places of steps, functions and words.
-ghost use Rattle.std.specs.Prelude.{◌≡◌, ◌*◌, ◌<◌, slice_index};
+ghost use Rattle.std.specs.Prelude.{◌≡◌, ◌*◌, ◌<◌};
 ghost use Rattle.language.specs.Words.{all};
 ghost use Rattle.lower.specs.Lower.{word_no};
 ghost use Rattle.assembler.specs.Frames.{bare, entry_at, step_place};
 
 use crate::frame::Frame;
 use crate::place::ImagePlace;
-
-// A word of a table; 0 behind its end.
-pub fn look(table: &[u32], i: usize) -> u32
-    ensures { result ≡ slice_index table.now i }
-{
-    if i < table.len() { table[i] } else { 0 }
-}
+use rows::read::word_at;
 
 impl Frame<'_> {
     // Where a step of the function at hand begins.
     pub fn step(self, t: u32) -> ImagePlace
         ensures { result.0 ≡ step_place self.entry t }
     {
-        ImagePlace(look(self.places, self.first.saturating_add(t as usize)))
+        let step = self.first.saturating_add(t as usize);
+        ImagePlace(word_at(self.tables.places, step))
     }
 
     pub fn function(self, g: u32) -> ImagePlace
         ensures { result.0 ≡ entry_at self.entry g }
     {
-        ImagePlace(look(self.entries, g as usize))
+        ImagePlace(word_at(self.tables.entries, g as usize))
     }
 
     // How far a word at the top is from the stack's floor.

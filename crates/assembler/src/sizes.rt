@@ -1,5 +1,5 @@
 // How many instructions a step has, and a function's beginning.
-ghost use Rattle.std.specs.Prelude.{◌≡◌, ◌+◌, ◌<◌, ◌≤◌, min, true, length};
+ghost use Rattle.std.specs.Prelude.{◌≡◌, ◌<◌, ◌≤◌, true, length};
 ghost use Rattle.language.specs.Words.{all};
 ghost use Rattle.steps.specs.Steps.{MFn, MProg};
 ghost use Rattle.lower.specs.Lower.{ops, ops1, width as wide, pro_width};
@@ -9,33 +9,33 @@ ghost use Rattle.assembler.specs.Operators.{two, one};
 ghost use Rattle.assembler.specs.Frames.{routine};
 
 use crate::function::Function;
-use crate::operator::{One, Two, one_of, two_of};
+use crate::operator::{One, Two};
 use middle::step::Step;
 
-// Eight words are passed at most.
-pub fn few(n: u32) -> u32
-    ensures { result ≡ min n 8 }
-{
-    if n < 8 { n } else { 8 }
-}
+// So many words are passed at most.
+pub const PASSED: u32 = 8;
 
-fn two_width(o: Two) -> u32
-    ensures { result ≡ length (ops 0 (two o)) }
-{
-    match o {
-        Two::Div | Two::Rem => 5,
-        Two::Ne | Two::Shl | Two::Shr => 3,
-        Two::Eq | Two::Le | Two::Ge => 2,
-        Two::Add | Two::Sub | Two::Mul | Two::Lt | Two::Gt | Two::And | Two::Or | Two::Xor => 1,
+impl Two {
+    fn width(self) -> u32
+        ensures { result ≡ length (ops 0 (two self)) }
+    {
+        match self {
+            Two::Div | Two::Rem => 5,
+            Two::Ne | Two::Shl | Two::Shr => 3,
+            Two::Eq | Two::Le | Two::Ge => 2,
+            Two::Add | Two::Sub | Two::Mul | Two::Lt | Two::Gt | Two::And | Two::Or | Two::Xor => 1,
+        }
     }
 }
 
-fn one_width(o: One) -> u32
-    ensures { result ≡ length (ops1 (one o)) }
-{
-    match o {
-        One::Neg | One::Inv | One::Flag => 2,
-        One::Not => 1,
+impl One {
+    fn width(self) -> u32
+        ensures { result ≡ length (ops1 (one self)) }
+    {
+        match self {
+            One::Neg | One::Inv | One::Flag => 2,
+            One::Not => 1,
+        }
     }
 }
 
@@ -45,17 +45,20 @@ pub fn width(step: Step) -> u32
     match step {
         Step::Num(..) | Step::JumpZero(..) | Step::Out(_) => 3,
         Step::Copy(..) => 2,
-        Step::Bin(o, ..) => two_width(two_of(o)) + 3,
-        Step::Un(o, ..) => one_width(one_of(o)) + 2,
+        Step::Bin(o, ..) => Two::from(o).width() + 3,
+        Step::Un(o, ..) => One::from(o).width() + 2,
         Step::Flag(..) | Step::GetWord(..) | Step::SetWord(..) => 4,
         Step::Jump(_) => 1,
-        Step::Call(.., n) => few(n) + 2,
+        Step::Call(.., n) => n.min(PASSED) + 2,
         Step::Ret(_) => 6,
     }
 }
 
-pub fn entering_width(f: Function) -> u32
-    ensures { f.params ≤ 8 → pro_width (routine f) < all → result ≡ pro_width (routine f) }
-{
-    f.vars.saturating_add(few(f.params) + 10)
+impl Function<'_> {
+    // How many instructions its beginning has.
+    pub fn entering_width(self) -> u32
+        ensures { self.entry.params ≤ 8 → pro_width (routine self.entry) < all → result ≡ pro_width (routine self.entry) }
+    {
+        self.vars.saturating_add(self.params.min(PASSED) + 10)
+    }
 }

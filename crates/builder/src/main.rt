@@ -4,7 +4,7 @@
 
 use anyhow::anyhow;
 use chain::build;
-use lower::Built;
+use lower::Unbuilt;
 use messages::explain;
 use sources::{MOST, Source, join, read_sources, show_problem};
 
@@ -29,23 +29,22 @@ fn answer(rt: &HostRuntime, order: &Order, sources: &[Source]) -> anyhow::Result
     let mut work = vec![in heap; 0; bytes * 16 + 65536]?;
     let mut image = vec![in heap; 0; bytes * 8 + 4096]?;
     match build(text.as_slice(), image.as_mut_slice(), work.as_mut_slice()) {
-        Built::Done(words) => {
+        Ok(words) => {
             let name = image_name(heap, order)?;
             write_image(rt, name.as_str(), &image.as_slice()[..words])?;
             println!(rt; "done {words}")?;
-            return Ok(true);
+            Ok(true)
         }
-        Built::NotYet(stage) => println!(rt; "not yet {stage}")?,
-        Built::NoProgram => {
-            if let Some(problem) = explain(text.as_slice(), work.as_mut_slice()) {
-                show_problem(rt, sources, problem.at, &problem.what)?;
+        Err(why) => {
+            if why == Unbuilt::NoProgram {
+                if let Some(problem) = explain(text.as_slice(), work.as_mut_slice()) {
+                    show_problem(rt, sources, problem.at, &problem.what)?;
+                }
             }
-            println!(rt; "no program")?;
+            println!(rt; "{why}")?;
+            Ok(false)
         }
-        Built::ImageFull => println!(rt; "image full")?,
-        Built::Few => println!(rt; "few")?,
     }
-    Ok(false)
 }
 
 fn work(rt: &HostRuntime) -> anyhow::Result<bool> {

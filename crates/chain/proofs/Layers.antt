@@ -1,5 +1,5 @@
 -- What the layers of a build give one another.
-use Rattle.std.proofs.Common.{◌≡◌, ℕ, suc, ◌+◌, ◌<◌, ◌≤◌, leb, List, [], ◌∷◌, ◌++◌, length, take, sym, refl, ap, ◌∙◌, arith, leb→le}
+use Rattle.std.proofs.Common.{◌≡◌, ℕ, suc, ◌+◌, ◌<◌, ◌≤◌, leb, List, [], ◌∷◌, ◌++◌, length, get_or, take, sym, refl, ap, ◌∙◌, arith, leb→le}
 use mathlib.Core.Option.{Option, some, none}
 use Rattle.language.specs.Syntax.{opt, Fn, Prog, stage}
 use Rattle.language.specs.Meaning.{Top, as_fn, all_tops}
@@ -57,3 +57,14 @@ pub bases_low : (t : List ℕ) (p : Prog) (n : ℕ) → Reads t p → stage p �
 bases_low t p n r s h =
     low_all n (resolve_prog p).routines h
     (each-routine p (λ r. base_of r ≤ 1022) CoreFn (λ f g k. omega (arith, k.places, places_are p f g, peak_needs (scope p f (slots_of g)) g.body (base_of (resolve_fn p f g)))) (all_tops p 0 0) (core_programs t p r s).funs)
+
+-- the words of a row's start: how many words there are at the top, main's number, and how many functions
+pub record Head (p : Prog) (ws : List ℕ) : Type 0 where
+  pub words : get_or ws 0 0 ≡ (gen_prog p).words
+  pub main : get_or ws 1 0 ≡ (resolve_prog p).main
+  pub count : get_or ws 2 0 ≡ length (others (gen_prog p).funs)
+
+pub head-is : {w ws : List ℕ} (p : Prog) → w ≡ resolved_words (resolve_prog p) → ws ≡ take 3 w → Head p ws
+head-is p e h =
+    let is = h ∙ ap (take 3) e in
+    record { words = ap (λ l. get_or l 0 0) is; main = ap (λ l. get_or l 1 0) is; count = ap (λ l. get_or l 2 0) is ∙ as_many p }

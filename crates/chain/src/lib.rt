@@ -1,24 +1,21 @@
 // The compiler: from a text to an image. What is promised of `build` stands in lower/specs/Promise; it reads as the list of layers.
 #![tactic(auto)]
 
-ghost use Rattle.std.specs.Prelude.{◌≡◌, ℕ, ◌+◌, ◌*◌, ◌<◌, ◌≤◌, List, [], length, take};
+ghost use Rattle.std.specs.Prelude.{◌≡◌, ℕ, ◌+◌, ◌*◌, ◌≤◌, List, length, take};
 ghost use Rattle.language.specs.Syntax.{Prog, stage};
 ghost use Rattle.grammar.specs.Text.{Reads};
 ghost use Rattle.image.specs.Image.{row};
-ghost use Rattle.rows.specs.Trees.{list_row};
-ghost use Rattle.steps.specs.Generate.{gen_prog};
-ghost use Rattle.lower.specs.Lower.{others, compile};
+ghost use Rattle.lower.specs.Lower.{compile};
 ghost use Rattle.lower.specs.Promise.{BuiltPost};
-ghost use Rattle.steps.specs.Fits.{Each};
 ghost use Rattle.generator.specs.ResolvedRows.{ResolvedProg, resolved_words, resolve_prog};
-ghost use Rattle.generator.specs.StepRows.{base_of, fn_words, made};
-ghost use Rattle.generator.specs.Peak.{peak};
-ghost use Rattle.generator.specs.Core.{CoreRoutine};
+ghost use Rattle.stepper.specs.Bodies.{Suits, steps_row as row_of_steps};
 ghost use Rattle.assembler.specs.Assembled.{Assembled};
+ghost use Rattle.chain.specs.Refusals.{unbuilt_of};
 
 use assembler::assemble;
-use lower::Built;
-use front::{Reading, read};
+use assembler::program::Program;
+use front::{Unreadable, read};
+use lower::Unbuilt;
 use rows::row::Row;
 use stepper::write_steps;
 
@@ -28,19 +25,19 @@ pub const LANDED: u32 = 0;
 // Words for the values that wait while a function's steps are written: no function of a text has more.
 const PILE: usize = 1022;
 
-// The words of a row's start: how many words there are at the top, main's number, and how many functions.
-fn head(resolved: &[u32]) -> (u32, u32, u32)
-    ensures { (p : Prog) → resolved.now ≡ resolved_words (resolve_prog p) → result ≡ ((resolve_prog p).words, (resolve_prog p).main, length (resolve_prog p).routines) }
+// Why no image was built of a text that no program was read from. No `From`: neither type is of this crate.
+fn unread(refusal: Unreadable) -> Unbuilt
+    ensures { result ≡ unbuilt_of refusal }
 {
-    if resolved.len() < 3 {
-        return (0, 0, 0);
+    match refusal {
+        Unreadable::Few => Unbuilt::Few,
+        Unreadable::NoProgram => Unbuilt::NoProgram,
     }
-    (resolved[0], resolved[1], resolved[2])
 }
 
 // Writes the row of a program's steps, if there is room, and says how many words were written.
 fn steps_row(resolved: &[u32], pile: &mut [u32], words: &mut [u32]) -> usize
-    ensures is { (r : ResolvedProg) → resolved.now ≡ resolved_words r → Each (λ g. CoreRoutine g × (g.own ≡ [])) r.routines → Each (λ g. peak (base_of g) g.nodes [] (base_of g) ≤ base_of g + length pile.old) r.routines → Each (λ g. base_of g + length pile.old + 2 < 4294967296) r.routines → length resolved.now < 1073741824 → length (list_row (λ g. fn_words (made g)) r.routines) ≤ length words.old → take result words.new ≡ list_row (λ g. fn_words (made g)) r.routines }
+    ensures is { (r : ResolvedProg) → Suits resolved.now r (length pile.old) → length (row_of_steps r) ≤ length words.old → take result words.new ≡ row_of_steps r }
     ensures inside { result ≤ length words.new }
     ensures kept { length words.new ≡ length words.old }
 {
@@ -56,29 +53,29 @@ fn generate(resolved: &[u32], work: &mut [u32], image: &mut [u32]) -> Option<usi
     if work.len() < PILE {
         return None;
     }
-    let (words, main, count) = head(resolved);
+    let [words, main, count] = *resolved.first_chunk::<3>()?;
     let (pile, rest) = work.split_at_mut(PILE);
     let n = steps_row(resolved, pile, rest);
     let (steps, tables) = rest.split_at_mut(n);
-    assemble(steps, count, words, main, tables, image)
+    let program = Program {
+        steps,
+        count,
+        words,
+        main,
+    };
+    assemble(program, tables, image)
 }
 
-// Builds the image of a text: reads and checks it, resolves its names, makes its steps, and lowers them.
-pub fn build(text: &[u8], image: &mut [u32], work: &mut [u32]) -> Built
+// Builds the image of a text: reads and checks it, resolves its names, makes its steps, and lowers them. How many words it has.
+pub fn build(text: &[u8], image: &mut [u32], work: &mut [u32]) -> Result<usize, Unbuilt>
     ensures { BuiltPost text.now (length work.old) image.old image.new result }
 {
-    let tree = match read(text, work) {
-        Reading::Few => return Built::Few,
-        Reading::NoProgram => return Built::NoProgram,
-        Reading::Program(tree) => tree,
-    };
+    let tree = read(text, work).map_err(unread)?;
     if tree.stage > LANDED {
-        return Built::NotYet(tree.stage);
+        return Err(Unbuilt::NotYet(tree.stage));
     }
+    // named first: a call with both parts of the tree in its arguments gets no generated proof
     let resolved = tree.resolved;
     let rest = tree.rest;
-    match generate(resolved, rest, image) {
-        Some(words) => Built::Done(words),
-        None => Built::ImageFull,
-    }
+    generate(resolved, rest, image).ok_or(Unbuilt::ImageFull)
 }

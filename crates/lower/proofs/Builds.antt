@@ -3,6 +3,7 @@ use mathlib.Core.Path.{◌≡◌, refl, sym, ap, subst}
 use mathlib.Core.Bool.{Bool, true, false, not}
 use mathlib.Core.List.{List, [], ◌∷◌, ◌++◌}
 use mathlib.Core.Option.{Option, some, none}
+use Rattle.std.specs.Prelude.{Result, Ok, Err}
 use Prim.Native.Nat.{ℕ, ◌+◌, ◌*◌, ◌≤◌}
 use native.Mathlib.Omega.{arith}
 use lib.ListN.{length, take, drop}
@@ -15,8 +16,8 @@ use Rattle.grammar.specs.Reading.{reading}
 use Rattle.grammar.proofs.Reading.{reading-sound, reading-none}
 use Rattle.grammar.proofs.TextLaws.{one-program, never-wrong, further}
 use Rattle.image.specs.Image.{Image, Sound, row}
-use Rattle.lower.specs.declared.Built.{Built}
-use Rattle.lower.specs.declared.Built.TheVariants.{Done, ImageFull, NotYet, NoProgram, Few}
+use Rattle.lower.specs.declared.Unbuilt.{Unbuilt}
+use Rattle.lower.specs.declared.Unbuilt.TheVariants.{ImageFull, NotYet, NoProgram, Few}
 use Rattle.lower.specs.Lower.{compile}
 use Rattle.lower.specs.Promise.{landed, RunsRight, BuiltSays, BuiltPost, Parts}
 use Rattle.lower.specs.Build.{Outcome, refused, written, of_text, BuildsRight}
@@ -33,12 +34,12 @@ drop-row : (r s : List ℕ) → drop (length r) (r ++ s) ≡ s
 drop-row [] s = refl
 drop-row (x ∷ r) s = drop-row r s
 
-abbrev IsFew : Built → Type 0
-IsFew (Done n) = ⊥
-IsFew ImageFull = ⊥
-IsFew (NotYet n) = ⊥
-IsFew NoProgram = ⊥
-IsFew Few = Unit {0}
+abbrev IsFew : Result ℕ Unbuilt → Type 0
+IsFew (Ok n) = ⊥
+IsFew (Err ImageFull) = ⊥
+IsFew (Err (NotYet n)) = ⊥
+IsFew (Err NoProgram) = ⊥
+IsFew (Err Few) = Unit {0}
 
 module _ (t : List ℕ) (w : ℕ) (o : List ℕ) where
   abbrev Said : Outcome → Type 0
@@ -48,7 +49,7 @@ module _ (t : List ℕ) (w : ℕ) (o : List ℕ) where
   of_image : (p : Prog) (i : Image) → Reads t p → stage p ≤ landed → Sound i → RunsRight p i → (length (row i) ≤ 4096 + 8 * length t) × (i.noughts ≤ 4096 + (all_words p + totals p)) → Said (written (row i) o)
   of_image p i r z s x f = go (ltb (length o) (length (row i))) refl
     where
-      go : (b : Bool) → ltb (length o) (length (row i)) ≡ b → Said (pick b (refused ImageFull o) (record { answer = Done (length (row i)); image = row i ++ drop (length (row i)) o }))
+      go : (b : Bool) → ltb (length o) (length (row i)) ≡ b → Said (pick b (refused ImageFull o) (record { answer = Ok (length (row i)); image = row i ++ drop (length (row i)) o }))
       go true e = ((p, r, z, omega (arith, ltb→lt (length o) (length (row i)) (subst T (sym e) tt), f.0), refl), λ h. h)
       go false e = ((p, i, r, z, s, x, f.0, f.1, refl, take_row (row i) (drop (length (row i)) o), drop-row (row i) (drop (length (row i)) o)), λ h. h)
 

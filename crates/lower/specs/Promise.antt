@@ -1,6 +1,6 @@
 -- The page of promises: what an image does on the board, and what the call `build` answers and writes.
 -- Rests on the language (Syntax, Words, Meaning, Checks, Observe), on texts (Text), on the processor (Machine) and on images (Image).
-use Rattle.std.specs.Prelude.{◌≡◌, ◌⊎◌, ◌↔◌, List, ◌∷◌, ℕ, ◌+◌, ◌-◌, ◌*◌, ◌<◌, ◌≤◌, length, take, drop}
+use Rattle.std.specs.Prelude.{◌≡◌, ◌⊎◌, ◌↔◌, List, ◌∷◌, ℕ, ◌+◌, ◌-◌, ◌*◌, ◌<◌, ◌≤◌, length, take, drop, Result, Ok, Err}
 use Rattle.std.proofs.Math.Option.{some}
 use Rattle.language.specs.Syntax.{Prog, stage}
 use Rattle.language.specs.Checks.{totals}
@@ -10,8 +10,8 @@ use Rattle.grammar.specs.Text.{Reads}
 use Rattle.grammar.specs.Laws.{OneProgram, NeverWrong, Further}
 use Rattle.processor.specs.Machine.{Machine, goes, halts, faults, after, shown}
 use Rattle.image.specs.Image.{Image, row, Sound, size, Ready}
-use Rattle.lower.specs.declared.Built.{Built}
-use Rattle.lower.specs.declared.Built.TheVariants.{Done, ImageFull, NotYet, NoProgram, Few}
+use Rattle.lower.specs.declared.Unbuilt.{Unbuilt}
+use Rattle.lower.specs.declared.Unbuilt.TheVariants.{ImageFull, NotYet, NoProgram, Few}
 
 -- the stage that is built so far: texts of a later one are answered `NotYet`
 abbrev pub landed : ℕ
@@ -55,16 +55,16 @@ abbrev pub RunsRight : Prog → Image → Type 0
 RunsRight p i = (a top : ℕ) (mem ins : List ℕ) (m : Machine) → Ready i a top mem ins m → Right p i a top ins m
 
 -- what `build` answers for the text t, and how the words lent for the image go from o to o'
-abbrev pub BuiltSays : List ℕ → List ℕ → List ℕ → Built → Type 0
+abbrev pub BuiltSays : List ℕ → List ℕ → List ℕ → Result ℕ Unbuilt → Type 0
 -- the image i of the program p was written, n words long; it is sound, does what p means, and is within its bounds
-BuiltSays t o o' (Done n) =
+BuiltSays t o o' (Ok n) =
     (p : Prog) × (i : Image) × Reads t p × (stage p ≤ landed) × Sound i × RunsRight p i
     × (n ≤ 4096 + 8 * length t) × (i.noughts ≤ 4096 + (all_words p + totals p))
     × (length (row i) ≡ n) × (take n o' ≡ row i) × (drop n o' ≡ drop n o)
-BuiltSays t o o' ImageFull = (p : Prog) × Reads t p × (stage p ≤ landed) × (length o < 4096 + 8 * length t) × (o' ≡ o)
-BuiltSays t o o' (NotYet n) = (p : Prog) × Reads t p × (stage p ≡ n) × (landed < n) × (o' ≡ o)
-BuiltSays t o o' NoProgram = ((p : Prog) → Reads t p → ⊥) × (o' ≡ o)
-BuiltSays t o o' Few = o' ≡ o
+BuiltSays t o o' (Err ImageFull) = (p : Prog) × Reads t p × (stage p ≤ landed) × (length o < 4096 + 8 * length t) × (o' ≡ o)
+BuiltSays t o o' (Err (NotYet n)) = (p : Prog) × Reads t p × (stage p ≡ n) × (landed < n) × (o' ≡ o)
+BuiltSays t o o' (Err NoProgram) = ((p : Prog) → Reads t p → ⊥) × (o' ≡ o)
+BuiltSays t o o' (Err Few) = o' ≡ o
 
 -- the laws of texts and of the meaning, which every use of the promise rests on
 pub record Parts : Type 0 where
@@ -73,7 +73,7 @@ pub record Parts : Type 0 where
   pub further : Further
 
 -- the whole promise, with w work words lent
-pub record BuiltPost (t : List ℕ) (w : ℕ) (o o' : List ℕ) (r : Built) : Type 0 where
+pub record BuiltPost (t : List ℕ) (w : ℕ) (o o' : List ℕ) (r : Result ℕ Unbuilt) : Type 0 where
   pub says : BuiltSays t o o' r
   pub parts : Parts
-  pub few : (w < 65536 + 16 * length t) ↔ (r ≡ Few)
+  pub few : (w < 65536 + 16 * length t) ↔ (r ≡ Err Few)

@@ -6,15 +6,31 @@ ghost use Rattle.lower.specs.Correct.{CompiledRight, CompiledSound, CompiledFits
 ghost use Rattle.lower.specs.Build.{BuildsRight};
 ghost use Rattle.lower.specs.Samples.{Worked};
 
-// An image was built, with its words; or why not.
-#[derive(Clone, Copy)]
-pub enum Built {
-    Done(usize),
+use std::error::Error;
+use std::fmt;
+
+// Why no image was built: there is no room for it, the program is of a stage that can't be built yet, the text is none, or there are too few
+// work words.
+#[derive(Clone, Copy, Debug, PartialEq, Eq)]
+pub enum Unbuilt {
     ImageFull,
     NotYet(u32),
     NoProgram,
     Few,
 }
+
+impl fmt::Display for Unbuilt {
+    fn fmt<W: fmt::Write>(&self, f: &mut fmt::Formatter<W>) -> fmt::Result {
+        match self {
+            Unbuilt::ImageFull => f.write_str("image full"),
+            Unbuilt::NotYet(stage) => write!(f, "not yet {}", stage),
+            Unbuilt::NoProgram => f.write_str("no program"),
+            Unbuilt::Few => f.write_str("few"),
+        }
+    }
+}
+
+impl Error for Unbuilt {}
 
 // Wherever it is loaded, the image of a text's program does what the program means: for the stages that are built.
 pub fn images_do_what_is_meant() -> bool

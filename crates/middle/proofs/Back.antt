@@ -1,8 +1,6 @@
 -- What was written is read back.
-use Rattle.std.proofs.Common.{◌≡◌, ℕ, ◌-◌, Bool, true, false, ◌&&◌, leb, List, [], ◌∷◌, length, get_or, take, drop, sym, refl, ap, ◌∙◌, subst, arith, length-drop}
-use Rattle.std.proofs.lemmas.List.{take_all, take_at}
+use Rattle.std.proofs.Common.{◌≡◌, ℕ, Bool, true, false, ◌&&◌, leb, List, [], ◌∷◌, length, get_or, sym, refl, subst}
 use mathlib.Core.Bool.{false≢true}
-use Rattle.rows.specs.Has.{Has}
 use Rattle.steps.specs.Steps as steps
 use Rattle.steps.specs.Steps.{Opnd, s_num, s_copy, s_bin, s_un, s_flag, s_getw, s_setw, s_jump, s_jz, s_call, s_table, s_out, s_ret, s_in, s_idx, s_put, s_len}
 use Rattle.lower.specs.Core.{core_step}
@@ -61,11 +59,5 @@ long (s_idx d o i) = refl
 long (s_put w o i a) = refl
 long (s_len d o) = refl
 
--- the five words that are read where a step's words stand
-words_of : (w a ws : List ℕ) (i : ℕ) (s : steps.Step) → Has w i (step_words s) → a ≡ take (length w - i) (drop i w) → ws ≡ take 5 a → ws ≡ step_words s
-words_of w a ws i s h e k = k ∙ ap (take 5) (e ∙ take_all (length w - i) (drop i w) (omega (arith, length-drop i w)) ∙ h.is) ∙ take_at (step_words s) h.rest 5 (long s)
-
-pub back : (w a ws : List ℕ) (i : ℕ) (s : steps.Step) → core_step s ≡ true → Has w i (step_words s) → a ≡ take (length w - i) (drop i w) → ws ≡ take 5 a → ReadsBack s (result_ok (decoded (get_or ws 0 0) (get_or ws 1 0) (get_or ws 2 0) (get_or ws 3 0) (get_or ws 4 0)))
-back w a ws i s c h e k =
-    let is = words_of w a ws i s h e k in
-    subst (λ l. ReadsBack s (result_ok (decoded (get_or l 0 0) (get_or l 1 0) (get_or l 2 0) (get_or l 3 0) (get_or l 4 0)))) (sym is) (own s c)
+pub back : (ws : List ℕ) (s : steps.Step) → core_step s ≡ true → ws ≡ step_words s → ReadsBack s (result_ok (decoded (get_or ws 0 0) (get_or ws 1 0) (get_or ws 2 0) (get_or ws 3 0) (get_or ws 4 0)))
+back ws s c e = subst (λ l. ReadsBack s (result_ok (decoded (get_or l 0 0) (get_or l 1 0) (get_or l 2 0) (get_or l 3 0) (get_or l 4 0)))) (sym e) (own s c)

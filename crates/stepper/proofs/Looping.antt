@@ -1,6 +1,7 @@
 -- The loop over a function's nodes.
-use Rattle.std.proofs.Common.{◌≡◌, ℕ, zero, suc, ◌+◌, ◌*◌, ◌<◌, ◌≤◌, min, max, true, List, [], ◌∷◌, length, map, drop, get_or, sym, refl, ap, ◌∙◌, subst, arith, length-drop}
+use Rattle.std.proofs.Common.{◌≡◌, ℕ, ◌+◌, ◌*◌, ◌<◌, ◌≤◌, min, max, true, List, [], ◌∷◌, length, map, drop, get_or, sym, refl, ap, ◌∙◌, subst, arith}
 use Rattle.std.proofs.lemmas.List.{length-map}
+use Rattle.middle.proofs.Chunks.{next-is}
 use Rattle.rows.specs.declared.row.Row.{Row}
 use Rattle.rows.proofs.Writing.{wrote_none}
 use Rattle.steps.specs.Fits.{Each}
@@ -20,19 +21,6 @@ use Rattle.stepper.proofs.Counting.{Words, words-above, words-piled, piled-long,
 
 abbrev start : Marks
 start = marks [] 0 0 []
-
--- the first of what is left, and what is left then
-pub record Next {A : Type 0} (xs : List A) (i : ℕ) (x : A) (rest : List A) : Type 0 where
-  pub item : (d : A) → get_or xs i d ≡ x
-  pub others : drop (i + 1) xs ≡ rest
-
-pub next-is : {A : Type 0} (xs : List A) (i : ℕ) {x : A} {rest : List A} → drop i xs ≡ x ∷ rest → Next xs i x rest
-next-is {A} [] i h = absurd (let z : ⊥ = omega (arith, ap length h, length-drop {A = A} i []) in z)
-next-is (y ∷ xs) zero h = record { item = λ d. cc; others = cc }
-next-is (y ∷ xs) (suc i) h =
-    let n = next-is xs i h in
-    let e : suc i + 1 ≡ suc (i + 1) = omega arith in
-    record { item = n.item; others = ap (λ k. drop k (y ∷ xs)) e ∙ n.others }
 
 -- where the loop stands: the marks, the values that are counted, the nodes that are left
 pub record Reached (nodes : List (List ℕ)) (b : ℕ) (vs : List Resolved) (i waiting places : ℕ) (w : Writer) (o : Row) : Type 0 where

@@ -1,13 +1,14 @@
 -- A function's row: its head, its steps, and the two words that are known at its end.
-use Rattle.std.proofs.Common.{◌≡◌, ℕ, zero, suc, ◌+◌, ◌-◌, ◌*◌, ◌/◌, ◌<◌, ◌≤◌, min, List, [], ◌∷◌, ◌++◌, length, map, get_or, take, drop, sym, refl, ap, ◌∙◌, subst, append_assoc, append-nil, arith, length-append, length-drop, get_or-take}
-use Rattle.std.proofs.lemmas.List.{take_all, take_at, drop_at, drop-drop}
+use Rattle.std.proofs.Common.{◌≡◌, ℕ, ◌+◌, ◌-◌, ◌*◌, ◌/◌, ◌<◌, ◌≤◌, min, List, [], ◌∷◌, ◌++◌, length, map, get_or, take, drop, sym, refl, ap, ◌∙◌, subst, append_assoc, append-nil, arith, length-append, length-drop, get_or-take}
+use Rattle.std.proofs.lemmas.List.{take_all, drop-drop}
 use Rattle.std.specs.Simd.{first_chunks}
+use Rattle.middle.proofs.Chunks.{by_chunks, behind-has}
 use Rattle.rows.specs.declared.row.Row.{Row}
 use Rattle.rows.specs.Row.{Wrote, Pushed}
 use Rattle.rows.specs.Has.{Has}
 use Rattle.rows.specs.Trees.{list_row}
 use Rattle.rows.proofs.Writing.{pushed_more, pushed_none}
-use Rattle.rows.proofs.Having.{has-at, has-next, has_left, has_right, has_to, has_as}
+use Rattle.rows.proofs.Having.{has-at, has-next, has_left, has_as}
 use Rattle.steps.specs.Steps.{Shape}
 use Rattle.steps.specs.Fits.{Each}
 use Rattle.generator.specs.Resolved.{Resolved}
@@ -33,16 +34,6 @@ head-filled {p} {p2} {p3} {p4} {p5} a b d n i j row f h ei k ej l w =
       kept = l.lent.kept ∙ (k.lent.kept ∙ all.kept);
       same = l.lent.same ∙ (k.lent.same ∙ all.same);
     }
-
--- the nodes' words, three by three
-three_by_three : (vs : List Resolved) (xs rest : List ℕ) (n : ℕ) → xs ≡ list_row node_words vs ++ rest → length vs ≤ n → take (length vs) (first_chunks 3 n xs) ≡ map node_words vs
-three_by_three [] xs rest n e l = refl
-three_by_three (v ∷ vs) xs rest zero e l = absurd (let z : ⊥ = omega arith in z)
-three_by_three (v ∷ vs) xs rest (suc n) e l =
-    let f : xs ≡ node_words v ++ (list_row node_words vs ++ rest) = e ∙ append_assoc (node_words v) (list_row node_words vs) rest in
-    let a : take 3 xs ≡ node_words v = ap (take 3) f ∙ take_at (node_words v) (list_row node_words vs ++ rest) 3 (node-long v) in
-    let b : drop 3 xs ≡ list_row node_words vs ++ rest = ap (drop 3) f ∙ drop_at (node_words v) (list_row node_words vs ++ rest) 3 (node-long v) in
-    ap (λ x. x ∷ take (length vs) (first_chunks 3 n (drop 3 xs))) a ∙ ap (λ ys. node_words v ∷ ys) (three_by_three vs (drop 3 xs) rest n b (omega arith))
 
 nodes-long : (vs : List Resolved) → length (list_row node_words vs) ≡ 3 * length vs
 nodes-long [] = refl
@@ -93,12 +84,6 @@ row_more (h ∷ gs) g = ap (λ r. fn_words (made h) ++ r) (row_more gs g) ∙ sy
 
 pub passed_first : (row : List ℕ) (all : List Routine) (words : ℕ) (o : Row) → Has row 0 (list_row routine_words all) → Each (λ g. Good g words) all → length row < 1073741824 → Passed row all words 0 o o
 passed_first row all words o h g short = record { done = []; rest = all; whole = refl; left = omega arith; has = h; short = short; good = g; pushed = pushed_none o }
-
--- what stands behind the first of some words
-behind-has : {row r : List ℕ} (ws vs : List ℕ) → Has row 0 (ws ++ vs) → r ≡ drop (length ws) row → Has r 0 vs
-behind-has {row} {r} ws vs h e =
-    let k : Has row (length ws) vs = has_to (omega arith) (has_right ws vs h) in
-    record { rest = k.rest; is = e ∙ k.is; inside = let i = k.inside in omega (arith, ap length e, length-drop (length ws) row) }
 
 more : (row r : List ℕ) (all : List Routine) (words i : ℕ) (o p q : Row) (done rest : List Routine) → done ++ rest ≡ all → length rest + i ≡ length all → Has row 0 (list_row routine_words rest) → length row < 1073741824 → Each (λ g. Good g words) rest → Pushed o p (list_row (λ g. fn_words (made g)) done) → i < length all → RoutineDone row words p r q → Passed r all words (i + 1) o q
 more row r all words i o p q done [] whole left has short good pushed lt d = absurd (let k : ⊥ = omega arith in k)
@@ -187,7 +172,7 @@ routine-is {p} {p2} {p3} {p4} {p5} row words r s g h good short =
     let rl : length s.rest ≡ length row - 5 = omega (arith, ap length s.rest_is, length-drop 5 row) in
     let m : s.count ≡ length g.nodes = let k = s.count_is in let l = s.chunks_long in omega arith in
     let ns : s.nodes ≡ map node_words g.nodes =
-    s.nodes_is ∙ (ap (λ k. take k s.chunks) m ∙ (ap (take (length g.nodes)) s.chunks_is ∙ three_by_three g.nodes s.rest hd.rest (length s.rest / 3) (s.rest_is ∙ hd.nodes) (omega arith))) in
+    s.nodes_is ∙ (ap (λ k. take k s.chunks) m ∙ (ap (take (length g.nodes)) s.chunks_is ∙ by_chunks node_words 3 node-long g.nodes s.rest hd.rest (length s.rest / 3) (s.rest_is ∙ hd.nodes) (omega arith))) in
     let done : BodyDone s.nodes (base_of g) words p2 s.places s.steps p3 = subst (λ k. BodyDone s.nodes k words p2 s.places s.steps p3) b s.body in
     let is = done.body g.nodes ns good.fit (omega arith) in
     let d = is.places in

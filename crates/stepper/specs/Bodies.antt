@@ -6,11 +6,11 @@ use Rattle.rows.specs.Has.{Has}
 use Rattle.rows.specs.Trees.{list_row}
 use Rattle.steps.specs.Fits.{Each}
 use Rattle.generator.specs.Resolved.{Resolved}
-use Rattle.generator.specs.ResolvedRows.{Routine, node_words, routine_words}
+use Rattle.generator.specs.ResolvedRows.{Routine, ResolvedProg, node_words, routine_words, resolved_words}
 use Rattle.generator.specs.StepRows.{step_words, fn_words, base_of, made}
 use Rattle.generator.specs.Emit.{marks, run}
 use Rattle.generator.specs.Peak.{peak}
-use Rattle.generator.specs.Core.{core}
+use Rattle.generator.specs.Core.{core, CoreRoutine}
 use Rattle.stepper.specs.Swapped.{Lent}
 
 -- nodes of stage 0, with words enough for their pile, and numbers that words hold
@@ -44,6 +44,18 @@ pub record Good (g : Routine) (words : ℕ) : Type 0 where
 pub record RoutineIs (g : Routine) (row r : List ℕ) (p q : Row) : Type 0 where
   pub behind : r ≡ drop (length (routine_words g)) row
   pub pushed : Pushed p q (fn_words (made g))
+
+-- what stands in the row is a resolved program of stage 0, with words enough for its piles, and numbers that words hold
+pub record Suits (row : List ℕ) (r : ResolvedProg) (words : ℕ) : Type 0 where
+  pub is : row ≡ resolved_words r
+  pub core : Each (λ g. CoreRoutine g × (g.own ≡ [])) r.routines
+  pub piles : Each (λ g. peak (base_of g) g.nodes [] (base_of g) ≤ base_of g + words) r.routines
+  pub small : Each (λ g. base_of g + words + 2 < 4294967296) r.routines
+  pub short : length row < 1073741824
+
+-- the row of its steps
+abbrev pub steps_row : ResolvedProg → List ℕ
+steps_row r = list_row (λ g. fn_words (made g)) r.routines
 
 -- for all functions that stand first in the row
 pub record RoutineDone (row : List ℕ) (words : ℕ) (p : Row) (r : List ℕ) (q : Row) : Type 0 where

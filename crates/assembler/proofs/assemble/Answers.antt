@@ -1,23 +1,23 @@
 use Rattle.std.proofs.Common.{◌≡◌, length, refl, ◌∙◌, arith}
 use Rattle.lower.specs.Lower.{others, row_of}
-use Rattle.assembler.proofs.Whole.{functions-given, code-end, no_room, assembled, table-room, near_size}
+use Rattle.assembler.proofs.Whole.{functions-given, code-end, no_room, assembled, table-room, none_some, some_same}
 use Rattle.assembler.proofs.assemble.Goals as goal
 
-pub returns-in_default : goal.returns-in_default
-returns-in_default c m k e n h r =
-    let (w, a, b) = table-room k n r in
-    let (is, es, ps) = c.measure.ensures.is m (others m.funs) (functions-given k e n) (omega (arith, code-end m c.args.main, k.short)) (omega (arith, a, c.split_at_mut-entries.ensures.front_len)) (omega (arith, b, c.split_at_mut-entries.ensures.back_len)) in
-    absurd (c.in_default.not-Near _ is)
+pub returns-in_err-size : goal.returns-in_err-size
+returns-in_err-size c m g r =
+    let (w, a, b) = table-room g.core g.count r in
+    let (is, es, ps) = c.in_err-size.ensures.is m (others m.funs) (functions-given g.core g.steps g.count) (omega (arith, code-end m c.args.program.main, g.core.short)) (omega (arith, a, c.split_at_mut-entries.ensures.front_len)) (omega (arith, b, c.split_at_mut-entries.ensures.back_len)) in
+    none_some is
 
 pub returns-then-image-whole : goal.returns-then-image-whole
-returns-then-image-whole c m k e n h r =
-    let (w, a, b) = table-room k n r in
-    let (is, es, ps) = c.in-Near.ensures.is m (others m.funs) (functions-given k e n) (omega (arith, code-end m c.args.main, k.short)) (omega (arith, a, c.split_at_mut-entries.ensures.front_len)) (omega (arith, b, c.split_at_mut-entries.ensures.back_len)) in
-    (no_room c.args.image.now k (near_size is ∙ code-end m c.args.main) c.if-image-whole.true, refl)
+returns-then-image-whole c m g r =
+    let (w, a, b) = table-room g.core g.count r in
+    let (is, es, ps) = c.in_ok-size.ensures.is m (others m.funs) (functions-given g.core g.steps g.count) (omega (arith, code-end m c.args.program.main, g.core.short)) (omega (arith, a, c.split_at_mut-entries.ensures.front_len)) (omega (arith, b, c.split_at_mut-entries.ensures.back_len)) in
+    (no_room c.args.image.now g.core (some_same is ∙ code-end m c.args.program.main) c.if-image-whole.true, refl)
 
 pub returns : goal.returns
-returns c m k e n h r =
-    let (w, a, b) = table-room k n r in
-    let (is, es, ps) = c.in-Near.ensures.is m (others m.funs) (functions-given k e n) (omega (arith, code-end m c.args.main, k.short)) (omega (arith, a, c.split_at_mut-entries.ensures.front_len)) (omega (arith, b, c.split_at_mut-entries.ensures.back_len)) in
-    let size : c.in-Near.size ≡ length (row_of m c.args.main) = near_size is ∙ code-end m c.args.main in
-    assembled c.args.image.now k size h c.if-image-whole.false (c.write_image.ensures m (record { core = k; steps = e; count = n; words = h }) (record { entries = es; places = ps }) size)
+returns c m g r =
+    let (w, a, b) = table-room g.core g.count r in
+    let (is, es, ps) = c.in_ok-size.ensures.is m (others m.funs) (functions-given g.core g.steps g.count) (omega (arith, code-end m c.args.program.main, g.core.short)) (omega (arith, a, c.split_at_mut-entries.ensures.front_len)) (omega (arith, b, c.split_at_mut-entries.ensures.back_len)) in
+    let size : c.in_ok-size.size ≡ length (row_of m c.args.program.main) = some_same is ∙ code-end m c.args.program.main in
+    assembled c.args.image.now g.core size g.words c.if-image-whole.false (c.write_image.ensures m g (record { entries = es; places = ps }) size)

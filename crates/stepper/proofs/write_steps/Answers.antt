@@ -15,10 +15,10 @@ loop-i-preserved c = record {
 
 pub returns : goal.returns
 returns c = record {
-  steps = λ r e a b d short.
-      let w = whole_is c.args.resolved.now c.in-Some.field-0-0.now c.in-Some.rest.now (get_or c.in-Some.field-0-0.now 2 0) r e c.in-Some.ensures.cases.0 refl c.in-Some.ensures.cases.1 in
+  steps = λ r s.
+      let w = whole_is c.args.resolved.now c.in-Some.field-0-0.now c.in-Some.rest.now (get_or c.in-Some.field-0-0.now 2 0) r s.is c.in-Some.ensures.cases.0 refl c.in-Some.ensures.cases.1 in
       let n = w.count in
       let l = ap length c.in-Some.ensures.cases.1 in
-      passed-last (c.loop-i.invariant.passed r.routines w.has n (all-good r.routines (length c.args.pile.now) a b d) (omega (arith, length-drop 3 c.args.resolved.now))) (omega arith);
+      passed-last (c.loop-i.invariant.passed r.routines w.has n (all-good r.routines (length c.args.pile.now) s.core s.piles s.small) (let short = s.short in omega (arith, length-drop 3 c.args.resolved.now))) (omega arith);
   lent = c.loop-i.invariant.lent;
 }

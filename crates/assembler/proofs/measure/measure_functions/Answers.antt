@@ -1,6 +1,7 @@
-use Rattle.std.proofs.Common.{◌≡◌, suc, ◌+◌, ◌-◌, arith}
+use Rattle.std.proofs.Common.{◌≡◌, suc, ◌+◌, ◌-◌, ap, arith}
 use Rattle.rows.proofs.Writing.{pushed_more}
-use Rattle.assembler.proofs.Measuring.{all_first, all_more, all-last, all_to}
+use Rattle.std.proofs.Common.{Some}
+use Rattle.assembler.proofs.Measuring.{all_first, all_more, all-last, all_to, some-function}
 use Rattle.assembler.proofs.measure.measure_functions.Goals as goal
 
 pub loop-i-init : goal.loop-i-init
@@ -8,11 +9,17 @@ loop-i-init c m fs h s = all_to (omega arith) (all_first m fs c.push.new.self c.
 
 pub loop-i-preserved : goal.loop-i-preserved
 loop-i-preserved c m fs h s =
-    let z : c.args.count - c.loop-i.i ≡ suc (c.args.count - (c.loop-i.i + 1)) = omega arith in
-    all_more (all_to z (c.loop-i.invariant m fs h s)) s (omega arith) c.function_at-function.ensures c.push-in-loop-i.ensures c.entering_width.ensures c.saturating_add-start.ensures c.first_step.ensures (c.measure_steps-place.ensures m) c.past_function-at.ensures
+    let z : c.args.program.count - c.loop-i.i ≡ suc (c.args.program.count - (c.loop-i.i + 1)) = omega arith in
+    all_more {g = c.in_ok-function.function} (all_to z (c.loop-i.invariant m fs h s)) s c.in_ok-function.ensures c.push-in-loop-i.ensures c.entering_width.ensures c.saturating_add-start.ensures (c.measure_steps-place.ensures m)
+
+pub returns-in_err-function : goal.returns-in_err-function
+returns-in_err-function c m fs h s =
+    let z : c.args.program.count - c.loop-i.i ≡ suc (c.args.program.count - (c.loop-i.i + 1)) = omega arith in
+    let a = all_to z (c.loop-i.invariant m fs h s) in
+    absurd (some-function a.rest a.stands c.in_err-function.ensures)
 
 pub returns : goal.returns
 returns c m fs h s =
-    let z : c.args.count - c.loop-i.i ≡ 0 = omega arith in
+    let z : c.args.program.count - c.loop-i.i ≡ 0 = omega arith in
     let (size, entries, places) = all-last (all_to z (c.loop-i.invariant m fs h s)) in
-    (size, pushed_more c.push.ensures entries, places)
+    (ap Some size, pushed_more c.push.ensures entries, places)

@@ -9,5 +9,5 @@ pub returns-in-Call : goal.returns-in-Call
 returns-in-Call c m f h =
     let n = c.in-Call.n in
     let s : n ≤ 8 = few-passed c.in-Call.field-0 c.in-Call.field-1 c.in-Call.field-2 n (subst (λ x. core_step (seen x) ≡ true) c.in-Call.is h) in
-    let e : c.few.result + 2 ≡ n + 2 = omega arith in
+    let e : c.min.result + 2 ≡ n + 2 = omega arith in
     e ∙ (sym (call-width m f c.in-Call.field-0 c.in-Call.field-1 c.in-Call.field-2 n) ∙ ap (λ x. width m f (seen x)) (sym c.in-Call.is))

@@ -12,7 +12,7 @@ returns c h =
     let k = c.args.from.0 in
     let n = c.args.count in
     let here = c.args.self.now.here in
-    let e : c.few.result ≡ n = omega arith in
+    let e : c.min.result ≡ n = omega arith in
     put_then (reals 0 (loads 10 k n)) (Jal 1 (rel (here + n) c.args.entry.0) ∷ Sw 2 10 (off (suc c.args.to.0)) ∷ [])
     (put_as (ap (λ x. reals 0 (loads 10 k x)) e) c.load_arguments.ensures)
     (put-more c.jump.ensures (put_as1 c.store.ensures.is c.put.ensures))

@@ -6,5 +6,5 @@ use Rattle.assembler.proofs.code.Code.jump_zero.Goals as goal
 
 pub returns : goal.returns
 returns c =
-    put_then _ _ (put_as2 c.load.ensures.is refl c.put2.ensures) c.jump.ensures
-    (λ e. let z : c.put2.new.self.here ≡ suc (suc c.args.self.now.here) = omega arith in ap (λ n. Jal 0 (rel n c.args.to.0) ∷ []) z)
+    put_then _ _ (put_as2 c.load.ensures.is refl c.put_all.ensures) c.jump.ensures
+    (λ e. let z : c.put_all.new.self.here ≡ suc (suc c.args.self.now.here) = omega arith in ap (λ n. Jal 0 (rel n c.args.to.0) ∷ []) z)

@@ -4,4 +4,4 @@ use Rattle.assembler.proofs.Rows.{frame-number}
 use Rattle.assembler.proofs.code.Code.leave.Goals as goal
 
 pub returns : goal.returns
-returns c = put-more (put_as2 c.load.ensures.is refl c.put2.ensures) (put-more (put_as (frame-number 6 c.args.places _ (search rules)) c.number.ensures) c.put2-2.ensures)
+returns c = put-more (put_as2 c.load.ensures.is refl c.put_all.ensures) (put-more (put_as (frame-number 6 c.args.places _ (search rules)) c.number.ensures) c.put_all-2.ensures)
