@@ -1,7 +1,9 @@
 -- Entries of a row passed one by one: what is left of them, and what holds of it.
-use Rattle.std.proofs.Common.{◌≡◌, ℕ, ◌+◌, ◌<◌, ◌≤◌, min, Bool, true, false, ◌&&◌, ◌||◌, List, [], ◌∷◌, length, sym, refl, ap, ◌∙◌, subst, arith, length-append, MatchOption, Option, Some, None}
-use Rattle.std.specs.Iterator.{ChecksAny, ChecksAll, FoldsItems, FoldTurn, Yields}
+use Rattle.std.proofs.Common.{◌≡◌, ℕ, ◌+◌, ◌<◌, ◌≤◌, min, Bool, true, false, ◌&&◌, ◌||◌, List, [], ◌∷◌, length, sym, refl, ap, ◌∙◌, subst, arith, length-append, MatchOption, IfSome, Option, Some, None}
+use Rattle.std.specs.Iterator.{ChecksAny, ChecksAll, FindsItem, FoldsItems, FoldTurn, Yields}
 use Rattle.std.specs.List.{FoldsTo}
+use Rattle.std.specs.Fn.{CalledAt}
+use Rattle.std.specs.Borrow.{Bor}
 use denote.Param.Members.{Mut, Called}
 use Rattle.language.specs.Syntax.{Name, same}
 use Rattle.rows.specs.Has.{Has, named}
@@ -114,6 +116,29 @@ module _ {S T F : Type 0} (L : List ℕ → S → List T → Type 0) {row : T �
 
     pub all_is : {s u : S} {r : Bool} {ts : List T} → L w s ts → ChecksAll (Gives L row) g s f r u → r ≡ h ts
     all_is {s} {u} {r} {ts} k c = until_all s u c.3.0 c.0 c.1 c.2 r ts k c.3.1 c.3.2 c.4 c.5
+
+-- the first that passes: h is the same of those from it on, or of none
+module _ {S T F V : Type 0} (L : List ℕ → S → List T → Type 0) {row : T → List ℕ} {w : List ℕ} {g : Mut F (Bor ℕ × Unit {0}) Bool} {f : F} (p : T → Bool) (says : (x : T) (j : ℕ) (b : Bool) (f' : F) → Has w j (row x) → CalledAt g f j b f' → (f' ≡ f) × (b ≡ p x)) (h : List T → V) (over : (x : T) (xs : List T) → p x ≡ false → h (x ∷ xs) ≡ h xs) where
+  abbrev pub Found : List T → Option ℕ → Type 0
+  Found ts r = MatchOption r (h ts ≡ h []) (λ j. (x : T) × (xs : List T) × Has w j (row x) × (p x ≡ true) × (h ts ≡ h (x ∷ xs)))
+
+  until_found : (s u t : S) (js : List ℕ) (r : Option ℕ) (f' : F) (ts : List T) → L w s ts → Yields (Gives L row) s js t → Gives L row t r u → FoldsTo (λ p x q. CalledAt g p x false q) f js f' → IfSome r (λ x. (h : F) × CalledAt g f' x true h) → Found ts r
+  until_found s u t [] None f' ts k y z c e = ap h (z w ts (subst (λ v. L w v ts) y k))
+  until_found s u t [] (Some j) f' ts k y z c e =
+      let v = z w ts (subst (λ v. L w v ts) y k) in
+      let q = says v.0 j true e.0 v.3 (subst (λ m. CalledAt g m j true e.0) (sym c) e.1) in
+      (v.0, v.1, v.3, sym q.1, ap h v.2)
+  until_found s u t (j ∷ js) r f' ts k y z c e =
+      let v = y.1 w ts k in
+      let q = says v.0 j false c.0 v.3 c.1 in
+      past r (ap h v.2 ∙ over v.0 v.1 (sym q.1)) (until_found y.0 u t js r f' v.1 v.4 y.2 z (subst (λ m. FoldsTo (λ p x q. CalledAt g p x false q) m js f') q.0 c.2) e)
+    where
+      past : (r : Option ℕ) {vs : List T} → h ts ≡ h vs → Found vs r → Found ts r
+      past None e n = e ∙ n
+      past (Some j) e n = (n.0, n.1, n.2, n.3, e ∙ n.4)
+
+  pub find_is : {s : S} (u : S) (r : Option ℕ) {ts : List T} → L w s ts → FindsItem (Gives L row) g s f r u → Found ts r
+  find_is {s} u r {ts} k c = until_found s u c.2.0 c.0 r c.1 ts k c.2.1 c.2.2 c.3 c.4
 
 -- a sum over them: each call adds v of an entry, which keeps I, of the sum so far and of those that are left
 module _ {S T F B V : Type 0} (L : List ℕ → S → List T → Type 0) {row : T → List ℕ} {w : List ℕ} {g : Mut F (B × (ℕ × Unit {0})) B} {f : F} (v : T → V) (add : B → V → B) (says : (a b : B) (x : T) (j : ℕ) (f' : F) → Has w j (row x) → Called g f (a, (j, tt)) b f' → (f' ≡ f) × (b ≡ add a (v x))) (I : B → List T → Type 0) (keeps : (a : B) (x : T) (xs : List T) → I a (x ∷ xs) → I (add a (v x)) xs) where

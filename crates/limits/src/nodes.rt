@@ -1,5 +1,5 @@
 // The nodes of a function's body, passed one by one up to its end.
-ghost use Rattle.std.specs.Prelude.{◌≡◌, true, List};
+ghost use Rattle.std.specs.Prelude.{◌≡◌, List, length};
 ghost use Rattle.std.specs.Iterator.{at_most};
 ghost use Rattle.rows.specs.Has.{Has};
 ghost use Rattle.rows.specs.Nodes.{Node, node_row, nodes_row};
@@ -20,7 +20,8 @@ pub struct Body<'a> {
 impl<'a> Body<'a> {
     // The nodes from a place on.
     pub fn new(row: &'a [u32], place: usize) -> Body<'a>
-        ensures { (ts : List Node) → Has row.now place (nodes_row ts) → Closed ts → NodesLeft row.now result ts }
+        ensures left { (ts : List Node) → Has row.now place (nodes_row ts) → Closed ts → NodesLeft row.now result ts }
+        ensures most { result.left ≡ length row.now }
     {
         Body {
             row,

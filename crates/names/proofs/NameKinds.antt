@@ -1,23 +1,24 @@
 -- A function's names as one list, their kinds, and the parameters of what is called.
-use Rattle.std.proofs.Common.{◌≡◌, ℕ, suc, ◌+◌, ◌<◌, ◌≤◌, min, Bool, true, false, ◌||◌, List, [], ◌∷◌, ◌++◌, length, get_or, Some, None, sym, refl, ap, ◌∙◌, subst, ap₂, append_assoc, arith, length-append}
+use Rattle.std.proofs.Common.{◌≡◌, ℕ, suc, ◌+◌, true≢false, Bool, true, false, ◌||◌, List, [], ◌∷◌, ◌++◌, length, Some, None, sym, refl, ap, ◌∙◌, subst, ap₂, append_assoc}
 use mathlib.Core.Option.{Option, some, none}
+use Rattle.std.specs.Prelude.{is_some}
 use Rattle.std.specs.declared.option.Option as std
 use Rattle.language.specs.Syntax.{pick, opt, Name, same, listed, Kind, k_word, k_arr, Param, Arr, Fn, Item, i_word, i_arr, i_data, i_table, i_fn, i_use, Prog}
-use Rattle.language.specs.Words.{bit}
 use Rattle.language.specs.Meaning.{on_some, or_else, Top, resolve, as_fn, as_table}
 use Rattle.language.specs.Checks.{in_params, in_arrs, kind_of, kind_is, is_local, fn_named, head_fn, params_of, params_of_table}
 use Rattle.steps.specs.Generate.{Slot, w_slot, a_slot, Ref, find, slot_of, arr_slots, var_slots, slots_from, slots_of}
 use Rattle.rows.specs.Has.{Has, named}
-use Rattle.rows.specs.Nodes.{body_row}
-use Rattle.rows.specs.Trees.{Local, list_row, map_list, kind_no, of_param, of_var, of_array, locals, local_row, fn_row, item_no, name_of, tail_row, item_row}
-use Rattle.rows.proofs.Having.{has_word, has-next, has_left, has_to, has_as}
+use Rattle.rows.specs.Trees.{Local, list_row, map_list, kind_no, of_param, of_var, of_array, locals, item_row}
 use Rattle.names.specs.declared.found.Spot.{Spot}
-use Rattle.names.specs.declared.found.Listed.{Listed}
+use Rattle.limits.specs.declared.entries.Entries.{Entries}
+use Rattle.limits.specs.declared.entries.Locals.{Locals}
+use Rattle.rows.specs.declared.kind.LocalKind.{LocalKind}
+use Rattle.rows.specs.declared.kind.ItemKind.TheVariants.{Table, Function}
+use Rattle.rows.specs.Kinds.{local_kind, kind_of_item as item_kind}
 use Rattle.names.specs.declared.found.Own.{Own}
 use Rattle.names.specs.Finds.{slots_in, ref_kind, top_in, FindsOwn, IsTop, Resolves}
-use Rattle.names.specs.Kinds.{kind_or, kind_of_item, item_params, item_table, kind_top, IsListed, IsParams, FindsParams, called, FindsCalled}
+use Rattle.names.specs.Kinds.{kind_found, kind_of_item, item_params, item_table, kind_top, FindsParams, called, FindsCalled}
 use Rattle.names.proofs.OwnNames.{ref-of, find-step, ref-of-kind, word_bit, array_bit}
-use Rattle.names.proofs.Searching.{item_name, item_tail}
 
 -- rows of lists, one behind another
 pub list_row-append : {A : Type 0} (row : A → List ℕ) (xs ys : List A) → list_row row (xs ++ ys) ≡ list_row row xs ++ list_row row ys
@@ -28,125 +29,22 @@ pub map-length : {A C : Type 0} (f : A → C) (xs : List A) → length (map_list
 map-length f [] = refl
 map-length f (x ∷ xs) = ap suc (map-length f xs)
 
--- what stands in the row of a function: three numbers, the names, the body
-module _ {w : List ℕ} {a u d : ℕ} (g : Fn) (small : length w < 18446744073709551616) (h : Has w a (item_row (i_fn g))) (sum : u ≡ min (a + 2) 18446744073709551615) (to : (y : Name) → Has w u (named y) → d ≡ u + (length y + 1)) where
-  fn_head : Has w d (fn_row g)
-  fn_head =
-      let hn = item_name (i_fn g) h in
-      let e : a + 2 ≡ u = omega (arith, hn.inside) in
-      has_to (omega (arith, to g.name (has_to e hn))) (item_tail (i_fn g) h)
+-- an item of any other kind has no parameters, or is no table
+pub params_none : (i : Item) → (item_kind i ≡ Function → ⊥) → item_params i ≡ none
+params_none (i_word x) n = refl
+params_none (i_arr q) n = refl
+params_none (i_data v y ns) n = refl
+params_none (i_table y fs) n = refl
+params_none (i_fn g) n = absurd (n refl)
+params_none (i_use y ys) n = refl
 
-  pub fn_names : {s : ℕ} → s ≡ min (d + 3) 18446744073709551615 → Has w s (list_row local_row (locals g) ++ body_row g.body)
-  fn_names {s} es =
-      let h3 = has-next (has-next (has-next fn_head)) in
-      has_to (omega (arith, h3.inside)) h3
-
-  pub all_names : {s t v i j k n : ℕ} → s ≡ min (d + 3) 18446744073709551615 → i ≡ get_or w d 0 → t ≡ min (d + 1) 18446744073709551615 → j ≡ get_or w t 0 → v ≡ min (d + 2) 18446744073709551615 → k ≡ get_or w v 0 → n ≡ i + j + k → IsListed w (locals g) (record { place = s; count = n })
-  all_names {s} {t} {v} {i} {j} {k} {n} es ei et ej ev ek en =
-      let h1 = has-next fn_head in
-      let h2 = has-next h1 in
-      let i1 = has_word fn_head in
-      let j1 : get_or w t 0 ≡ length g.vars = ap (λ (m : ℕ). get_or w m 0) (omega (arith, et, h1.inside)) ∙ has_word h1 in
-      let k1 : get_or w v 0 ≡ length g.arrs = ap (λ (m : ℕ). get_or w m 0) (omega (arith, ev, h2.inside)) ∙ has_word h2 in
-      let vs = map_list of_var g.vars in
-      let l1 = length-append (map_list of_param g.params) (vs ++ map_list of_array g.arrs) in
-      let l2 = length-append vs (map_list of_array g.arrs) in
-      let m1 = map-length of_param g.params in
-      let m2 = map-length of_var g.vars in
-      let m3 = map-length of_array g.arrs in
-      record { here = has_left (list_row local_row (locals g)) (body_row g.body) (fn_names es); long = omega arith }
-
-  pub its_params : {s n : ℕ} → s ≡ min (d + 3) 18446744073709551615 → n ≡ get_or w d 0 → IsListed w (map_list of_param g.params) (record { place = s; count = n })
-  its_params {s} {n} es en =
-      let qs = map_list of_param g.params in
-      let rs = map_list of_var g.vars ++ map_list of_array g.arrs in
-      let hl = has_left (list_row local_row (locals g)) (body_row g.body) (fn_names es) in
-      record { here = has_left (list_row local_row qs) (list_row local_row rs) (has_as (list_row-append local_row qs rs) hl); long = map-length of_param g.params ∙ sym (en ∙ has_word fn_head) }
-
--- the kind of an item by its number
-pub kind-word : {w : List ℕ} {a r : ℕ} → r ≡ get_or w a 0 → r ≡ 0 → (i : Item) → Has w a (item_row i) → 0 ≡ kind_or (kind_of_item i)
-kind-word rd z (i_word x) h = refl
-kind-word rd z (i_arr q) h = absurd (omega (arith, has_word h))
-kind-word rd z (i_data e y ns) h = absurd (omega (arith, has_word h))
-kind-word rd z (i_table y fs) h = absurd (omega (arith, has_word h))
-kind-word rd z (i_fn g) h = absurd (omega (arith, has_word h))
-kind-word rd z (i_use y ys) h = absurd (omega (arith, has_word h))
-
-bit-kind : (b : Bool) → 1 + bit b ≡ kind_no (k_arr b)
-bit-kind true = refl
-bit-kind false = refl
-
-module _ {w : List ℕ} {a r : ℕ} (rd : r ≡ get_or w a 0) where
-  pub kind_array : {u d n : ℕ} → length w < 18446744073709551616 → (r ≡ 0 → ⊥) → r < 3 → u ≡ min (a + 2) 18446744073709551615 → ((y : Name) → Has w u (named y) → d ≡ u + (length y + 1)) → n ≡ get_or w d 0 → (i : Item) → Has w a (item_row i) → 1 + n ≡ kind_or (kind_of_item i)
-  kind_array {u} {d} {n} small nz lt sum to en i h =
-      let hn = item_name i h in
-      let e : a + 2 ≡ u = omega (arith, hn.inside) in
-      let ht = has_to {j = d} (omega (arith, to (name_of i) (has_to e hn))) (item_tail i h) in
-      go i (rd ∙ has_word h) ht
-    where
-      go : (i : Item) → r ≡ item_no i → Has w d (tail_row i) → 1 + n ≡ kind_or (kind_of_item i)
-      go (i_word x) q t = absurd (nz q)
-      go (i_arr q1) q t = ap (λ (m : ℕ). 1 + m) (en ∙ has_word t) ∙ bit-kind q1.wide
-      go (i_data v y ns) q t = ap (λ (m : ℕ). 1 + m) (en ∙ has_word t) ∙ bit-kind v
-      go (i_table y fs) q t = absurd (omega arith)
-      go (i_fn g) q t = absurd (omega arith)
-      go (i_use y ys) q t = absurd (omega arith)
-
-  pub kind_none : 3 ≤ r → (i : Item) → Has w a (item_row i) → 3 ≡ kind_or (kind_of_item i)
-  kind_none le (i_word x) h = absurd (omega (arith, has_word h))
-  kind_none le (i_arr q) h = absurd (omega (arith, has_word h))
-  kind_none le (i_data e y ns) h = absurd (omega (arith, has_word h))
-  kind_none le (i_table y fs) h = refl
-  kind_none le (i_fn g) h = refl
-  kind_none le (i_use y ys) h = refl
-
-  -- the parameters of an item by its number
-  pub params_some : r ≡ 4 → {n : Listed} → ((g : Fn) → Has w a (item_row (i_fn g)) → IsListed w (map_list of_param g.params) n) → (i : Item) → Has w a (item_row i) → IsParams w (item_params i) n
-  params_some e it (i_word x) h = absurd (omega (arith, has_word h))
-  params_some e it (i_arr q) h = absurd (omega (arith, has_word h))
-  params_some e it (i_data v y ns) h = absurd (omega (arith, has_word h))
-  params_some e it (i_table y fs) h = absurd (omega (arith, has_word h))
-  params_some e it (i_fn g) h = record { params = g.params; is = refl; there = it g h }
-  params_some e it (i_use y ys) h = absurd (omega (arith, has_word h))
-
-  pub params_none : (r ≡ 4 → ⊥) → (i : Item) → Has w a (item_row i) → item_params i ≡ none
-  params_none n (i_word x) h = refl
-  params_none n (i_arr q) h = refl
-  params_none n (i_data v y ns) h = refl
-  params_none n (i_table y fs) h = refl
-  params_none n (i_fn g) h = absurd (n (rd ∙ has_word h))
-  params_none n (i_use y ys) h = refl
-
-  -- the parameters of a table's functions
-  pub table-some : {u d : ℕ} (q : std.Option Listed) (p : Prog) (f : Name) → length w < 18446744073709551616 → r ≡ 3 → u ≡ min (a + 2) 18446744073709551615 → ((y : Name) → Has w u (named y) → d ≡ u + (length y + 1)) → ((fs : List Name) → Has w d (length fs ∷ list_row named fs) → FindsParams w (head_fn p f fs) q) → (i : Item) → Has w a (item_row i) → FindsParams w (item_table p f i) q
-  table-some o p f small e sum to it (i_word x) h = absurd (omega (arith, has_word h))
-  table-some o p f small e sum to it (i_arr q) h = absurd (omega (arith, has_word h))
-  table-some o p f small e sum to it (i_data v y ns) h = absurd (omega (arith, has_word h))
-  table-some {u} {d} o p f small e sum to it (i_table y fs) h =
-      let hn = item_name (i_table y fs) h in
-      let eu : a + 2 ≡ u = omega (arith, hn.inside) in
-      it fs (has_to {j = d} (omega (arith, to y (has_to eu hn))) (item_tail (i_table y fs) h))
-  table-some o p f small e sum to it (i_fn g) h = absurd (omega (arith, has_word h))
-  table-some o p f small e sum to it (i_use y ys) h = absurd (omega (arith, has_word h))
-
-  pub table_none : (p : Prog) (f : Name) → (r ≡ 3 → ⊥) → (i : Item) → Has w a (item_row i) → item_table p f i ≡ none
-  table_none p f n (i_word x) h = refl
-  table_none p f n (i_arr q) h = refl
-  table_none p f n (i_data v y ns) h = refl
-  table_none p f n (i_table y fs) h = absurd (n (rd ∙ has_word h))
-  table_none p f n (i_fn g) h = refl
-  table_none p f n (i_use y ys) h = refl
-
--- a list of functions' names, by its number
-pub first-none : {w : List ℕ} {a r : ℕ} (p : Prog) (f : Name) (fs : List Name) → r ≡ get_or w a 0 → r ≡ 0 → Has w a (length fs ∷ list_row named fs) → head_fn p f fs ≡ none
-first-none p f [] rd e h = refl
-first-none p f (x ∷ xs) rd e h = absurd (omega (arith, has_word h))
-
-pub first_some : {w : List ℕ} {a r s : ℕ} (q : std.Option Listed) (p : Prog) (f : Name) (fs : List Name) → length w < 18446744073709551616 → r ≡ get_or w a 0 → (r ≡ 0 → ⊥) → s ≡ min (a + 1) 18446744073709551615 → ((x : Name) → Has w s (named x) → FindsParams w (on_some (fn_named p f x) (λ h. some h.params)) q) → Has w a (length fs ∷ list_row named fs) → FindsParams w (head_fn p f fs) q
-first_some o p f [] small rd e sum it h = absurd (e (rd ∙ has_word h))
-first_some o p f (x ∷ xs) small rd e sum it h =
-    let h1 = has-next h in
-    it x (has_to (omega (arith, sum, h1.inside)) (has_left (named x) (list_row named xs) h1))
+pub table_none : (p : Prog) (f : Name) (i : Item) → (item_kind i ≡ Table → ⊥) → item_table p f i ≡ none
+table_none p f (i_word x) n = refl
+table_none p f (i_arr q) n = refl
+table_none p f (i_data v y ns) n = refl
+table_none p f (i_table y fs) n = absurd (n refl)
+table_none p f (i_fn g) n = refl
+table_none p f (i_use y ys) n = refl
 
 -- what stands at the top of an item
 top-kind-is : (f : Name) (i : Item) (w a : ℕ) → on_some (top_in f i w a) (λ t. kind_is t.is) ≡ kind_of_item i
@@ -173,19 +71,19 @@ top-table-is p f (i_table x fs) w a = refl
 top-table-is p f (i_fn g) w a = refl
 top-table-is p f (i_use x ys) w a = refl
 
-params_to : (w : List ℕ) {o q : Option (List Param)} (r : std.Option Listed) → q ≡ o → FindsParams w o r → FindsParams w q r
+params_to : (w : List ℕ) {o q : Option (List Param)} (r : std.Option (Entries Locals)) → q ≡ o → FindsParams w o r → FindsParams w q r
 params_to w None e v = e ∙ v
 params_to w (Some n) e v = record { params = v.params; is = e ∙ v.is; there = v.there }
 
 -- at an item that was found
 module _ {w : List ℕ} {s : Spot} {o : Option Top} (v : IsTop w s o) where
-  pub kind_here : {n : ℕ} → ((i : Item) → Has w s.item (item_row i) → n ≡ kind_or (kind_of_item i)) → n ≡ kind_or (on_some o (λ t. kind_is t.is))
-  kind_here it = it v.item v.at_item ∙ ap kind_or (sym (ap (λ (q : Option Top). on_some q (λ t. kind_is t.is)) v.is ∙ top-kind-is v.file v.item s.words s.arrays))
+  pub kind_here : {n : std.Option LocalKind} → ((i : Item) → Has w s.item (item_row i) → n ≡ kind_found (kind_of_item i)) → n ≡ kind_found (on_some o (λ t. kind_is t.is))
+  kind_here it = it v.item v.at_item ∙ ap kind_found (sym (ap (λ (q : Option Top). on_some q (λ t. kind_is t.is)) v.is ∙ top-kind-is v.file v.item s.words s.arrays))
 
-  pub params_here : (q : std.Option Listed) → ((i : Item) → Has w s.item (item_row i) → FindsParams w (item_params i) q) → FindsParams w (on_some (on_some o as_fn) (λ h. some h.params)) q
+  pub params_here : (q : std.Option (Entries Locals)) → ((i : Item) → Has w s.item (item_row i) → FindsParams w (item_params i) q) → FindsParams w (on_some (on_some o as_fn) (λ h. some h.params)) q
   params_here q it = params_to w q (ap (λ (t : Option Top). on_some (on_some t as_fn) (λ h. some h.params)) v.is ∙ top-params_are v.file v.item s.words s.arrays) (it v.item v.at_item)
 
-  pub table_here : (p : Prog) (q : std.Option Listed) → ((f : Name) (i : Item) → Has w s.file (named f) → Has w s.item (item_row i) → FindsParams w (item_table p f i) q) → FindsParams w (on_some o (λ t. on_some (as_table t) (λ fs. head_fn p t.file fs))) q
+  pub table_here : (p : Prog) (q : std.Option (Entries Locals)) → ((f : Name) (i : Item) → Has w s.file (named f) → Has w s.item (item_row i) → FindsParams w (item_table p f i) q) → FindsParams w (on_some o (λ t. on_some (as_table t) (λ fs. head_fn p t.file fs))) q
   table_here p q it = params_to w q (ap (λ (u : Option Top). on_some u (λ t. on_some (as_table t) (λ fs. head_fn p t.file fs))) v.is ∙ top-table-is p v.file v.item s.words s.arrays) (it v.file v.item v.at_file v.at_item)
 
 -- a function's names: the kind of the first that is x
@@ -261,6 +159,14 @@ slots_are g = ps g.params
 pub own-slots : (g : Fn) (x : Name) (q : std.Option Own) → FindsOwn (slots_in (locals g)) x q → FindsOwn (slots_of g) x q
 own-slots g x q v = subst (λ (ss : List Slot). FindsOwn ss x q) (slots_are g) v
 
+pub own-some : (g : Fn) (x : Name) (q : std.Option Own) → FindsOwn (slots_of g) x q → is_some q ≡ true → (r : Ref) × (find (slots_of g) x 0 0 ≡ some r)
+own-some g x None v e = absurd (true≢false (sym e))
+own-some g x (Some o) v e = (v.ref, v.is)
+
+pub own-none : (g : Fn) (x : Name) (q : std.Option Own) → FindsOwn (slots_of g) x q → is_some q ≡ false → find (slots_of g) x 0 0 ≡ none
+own-none g x None v e = v
+own-none g x (Some o) v e = absurd (true≢false e)
+
 own-kind : (g : Fn) (x : Name) → in_list (locals g) x ≡ on_some (find (slots_of g) x 0 0) (λ r. some (ref_kind r))
 own-kind g x = list_found (locals g) x 0 0 ∙ ap (λ (ss : List Slot). on_some (find ss x 0 0) (λ r. some (ref_kind r))) (slots_are g)
 
@@ -269,15 +175,15 @@ kind-split : (p : Prog) (f : Name) (g : Fn) (x : Name) → kind_of p f g x ≡ o
 kind-split p f g x =
     sym (ap (λ (o : Option Kind). or_else o (kind_top p f x)) (in_locals g x) ∙ or_or (in_params g.params x) (or_else (pick (listed x g.vars) (some k_word) none) (in_arrs g.arrs x)) (kind_top p f x) ∙ ap (or_else (in_params g.params x)) (or_or (pick (listed x g.vars) (some k_word) none) (in_arrs g.arrs x) (kind_top p f x)))
 
-pub kind-own : (p : Prog) (f : Name) (g : Fn) (x : Name) {r : Ref} {n : ℕ} → find (slots_of g) x 0 0 ≡ some r → n ≡ kind_no (ref_kind r) → n ≡ kind_or (kind_of p f g x)
+pub kind-own : (p : Prog) (f : Name) (g : Fn) (x : Name) {r : Ref} {n : std.Option LocalKind} → find (slots_of g) x 0 0 ≡ some r → n ≡ Some (local_kind (ref_kind r)) → n ≡ kind_found (kind_of p f g x)
 kind-own p f g x {r} {n} e k =
     let q : in_list (locals g) x ≡ some (ref_kind r) = own-kind g x ∙ ap (λ (o : Option Ref). on_some o (λ t. some (ref_kind t))) e in
-    k ∙ sym (ap kind_or (kind-split p f g x ∙ ap (λ (o : Option Kind). or_else o (kind_top p f x)) q))
+    k ∙ sym (ap kind_found (kind-split p f g x ∙ ap (λ (o : Option Kind). or_else o (kind_top p f x)) q))
 
-pub kind_else : (p : Prog) (f : Name) (g : Fn) (x : Name) {n : ℕ} → find (slots_of g) x 0 0 ≡ none → n ≡ kind_or (kind_top p f x) → n ≡ kind_or (kind_of p f g x)
+pub kind_else : (p : Prog) (f : Name) (g : Fn) (x : Name) {n : std.Option LocalKind} → find (slots_of g) x 0 0 ≡ none → n ≡ kind_found (kind_top p f x) → n ≡ kind_found (kind_of p f g x)
 kind_else p f g x {n} e k =
     let q : in_list (locals g) x ≡ none = own-kind g x ∙ ap (λ (o : Option Ref). on_some o (λ t. some (ref_kind t))) e in
-    k ∙ sym (ap kind_or (kind-split p f g x ∙ ap (λ (o : Option Kind). or_else o (kind_top p f x)) q))
+    k ∙ sym (ap kind_found (kind-split p f g x ∙ ap (λ (o : Option Kind). or_else o (kind_top p f x)) q))
 
 -- whether a name is one of the function's own
 is-own : (g : Fn) (x : Name) → is_local g x ≡ opt (in_list (locals g) x) false (λ k. true)
@@ -322,8 +228,8 @@ module _ (p : Prog) (f : Name) (g : Fn) (x : Name) where
   pub no_table : called p f g x ≡ none → params_of_table p f g x ≡ none
   no_table e = table-called p f g x ∙ ap (λ (o : Option Top). on_some o (λ t. on_some (as_table t) (λ fs. head_fn p t.file fs))) e
 
-  pub yes_params : {w : List ℕ} {s : Spot} (q : std.Option Listed) → IsTop w s (called p f g x) → ((i : Item) → Has w s.item (item_row i) → FindsParams w (item_params i) q) → FindsParams w (params_of p f g x) q
+  pub yes_params : {w : List ℕ} {s : Spot} (q : std.Option (Entries Locals)) → IsTop w s (called p f g x) → ((i : Item) → Has w s.item (item_row i) → FindsParams w (item_params i) q) → FindsParams w (params_of p f g x) q
   yes_params {w} q v it = params_to w q (params-called p f g x) (params_here v q it)
 
-  pub yes_table : {w : List ℕ} {s : Spot} (q : std.Option Listed) → IsTop w s (called p f g x) → ((f : Name) (i : Item) → Has w s.file (named f) → Has w s.item (item_row i) → FindsParams w (item_table p f i) q) → FindsParams w (params_of_table p f g x) q
+  pub yes_table : {w : List ℕ} {s : Spot} (q : std.Option (Entries Locals)) → IsTop w s (called p f g x) → ((f : Name) (i : Item) → Has w s.file (named f) → Has w s.item (item_row i) → FindsParams w (item_table p f i) q) → FindsParams w (params_of_table p f g x) q
   yes_table {w} q v it = params_to w q (table-called p f g x) (table_here v p q it)

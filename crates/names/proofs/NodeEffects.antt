@@ -9,13 +9,15 @@ use Rattle.language.specs.Meaning.{on_some}
 use Rattle.language.specs.Checks.{same_k, is_kind, any_arr}
 use Rattle.rows.specs.Has.{Has, named}
 use Rattle.rows.specs.Nodes.{Node, node_row, n_num, n_var, n_bin, n_and, n_or, n_join, n_un, n_idx, n_len, n_call, n_by, n_in, n_set, n_store, n_ex, n_out, n_if, n_else, n_fi, n_loop, n_while, n_again, n_ret, n_break, n_next, n_end, n_arg}
-use Rattle.rows.specs.Trees.{map_list, of_param}
+use Rattle.rows.specs.Trees.{map_list, of_param, local_row}
 use Rattle.rows.proofs.Having.{has_word, has-next, has_to}
-use Rattle.names.specs.declared.found.Listed.{Listed}
-use Rattle.names.specs.declared.found.Effect.{Effect}
+use Rattle.limits.specs.declared.entries.Entries.{Entries}
+use Rattle.limits.specs.declared.entries.Locals.{Locals}
+use Rattle.limits.specs.Entries.{Left}
+use Rattle.names.specs.declared.asking.Effect.{Effect}
 use Rattle.names.specs.Fold.{Ctx, kinds, fit, eat, push, if_so, one, inside, step}
-use Rattle.names.specs.Kinds.{kind_or, IsListed}
-use Rattle.names.specs.Effects.{takes, gives, wants_kind, suits, stands, give, local_kinds, nowhere, Does, Asks}
+use Rattle.names.specs.Kinds.{kind_or}
+use Rattle.names.specs.Effects.{takes, gives, wants_kind, suits, stands, give, local_kinds, Does, Asks}
 use Rattle.names.proofs.NameKinds.{map-length}
 
 unfoldable pub tag_of : Node → ℕ
@@ -88,7 +90,7 @@ eat-none st =
     ∙ ap (λ (b : Bool). pick (b && true) (some st) none) (le-leb 0 (length st) (omega arith))
 
 -- an effect by its parts
-pub does-of : {w : List ℕ} {Γ : Ctx} {d : ℕ} (t : Node) {b c : Bool} {m n j k : ℕ} → b ≡ c → m ≡ n → j ≡ k → Does w Γ d t (record { ok = c; words = n; params = nowhere; gives = k }) → Does w Γ d t (record { ok = b; words = m; params = nowhere; gives = j })
+pub does-of : {w : List ℕ} {Γ : Ctx} {d : ℕ} {nowhere : Entries Locals} (t : Node) {b c : Bool} {m n j k : ℕ} → b ≡ c → m ≡ n → j ≡ k → Does w Γ d t (record { ok = c; words = n; params = nowhere; gives = k }) → Does w Γ d t (record { ok = b; words = m; params = nowhere; gives = j })
 does-of {w} {Γ} {d} t {b} {c} {m} {n} {j} {k} eb em ej v =
     record {
       asked = v.asked;
@@ -98,12 +100,9 @@ does-of {w} {Γ} {d} t {b} {c} {m} {n} {j} {k} eb em ej v =
       is = λ st. v.is st ∙ ap₂ (λ (a : Bool) (u : ℕ). if_so a (give v.given (eat (u + length v.asked) (replicate u k_word ++ local_kinds v.asked) st))) (sym eb) (sym em);
     }
 
-nothing : {w : List ℕ} → IsListed w [] nowhere
-nothing {w} = record { here = record { rest = w; is = refl; inside = omega arith }; long = refl }
-
 -- a node that asks for no parameters
-bare : {w : List ℕ} {Γ : Ctx} {d : ℕ} (t : Node) (b : Bool) (n : ℕ) (o : Option Kind) {k : ℕ} → k ≡ kind_or o → ((st : List Kind) → step Γ d t st ≡ if_so b (give o (eat (n + 0) (replicate n k_word ++ []) st))) → Does w Γ d t (record { ok = b; words = n; params = nowhere; gives = k })
-bare t b n o e it = record { asked = []; there = nothing; given = o; gives = e; is = it }
+bare : {w : List ℕ} {Γ : Ctx} {d : ℕ} {nowhere : Entries Locals} → Left local_row w nowhere [] → (t : Node) (b : Bool) (n : ℕ) (o : Option Kind) {k : ℕ} → k ≡ kind_or o → ((st : List Kind) → step Γ d t st ≡ if_so b (give o (eat (n + 0) (replicate n k_word ++ []) st))) → Does w Γ d t (record { ok = b; words = n; params = nowhere; gives = k })
+bare nothing t b n o e it = record { asked = []; there = nothing; given = o; gives = e; is = it }
 
 low : (n : ℕ) → ltb n all ≡ eqb (n / all) 0
 low n = go (cases_eq (n / all) 0)
@@ -134,7 +133,7 @@ word-kind (some k_word) = refl
 word-kind (some (k_arr true)) = refl
 word-kind (some (k_arr false)) = refl
 
-module _ {w : List ℕ} (Γ : Ctx) {i s u : ℕ} (small : length w < 18446744073709551616) (second : s ≡ min (i + 1) 18446744073709551615) (third : u ≡ min (i + 2) 18446744073709551615) where
+module _ {w : List ℕ} {nowhere : Entries Locals} (nothing : Left local_row w nowhere []) (Γ : Ctx) {i s u : ℕ} (small : length w < 18446744073709551616) (second : s ≡ min (i + 1) 18446744073709551615) (third : u ≡ min (i + 2) 18446744073709551615) where
   at_second : {a b : ℕ} {ws : List ℕ} → Has w i (a ∷ b ∷ ws) → Has w s (b ∷ ws)
   at_second h = let h1 = has-next h in has_to (omega (arith, h1.inside, second)) h1
 
@@ -144,51 +143,51 @@ module _ {w : List ℕ} (Γ : Ctx) {i s u : ℕ} (small : length w < 18446744073
   plain_node d h k (n_num n) rd at1 e n9 n10 =
       let h2 = has-next (has-next at1) in
       let eh : h ≡ n / all = rd ∙ has_word (has_to (omega (arith, h2.inside, third)) h2) in
-      bare (n_num n) (eqb h 0) 0 (some k_word) refl (λ st. ap₂ (λ (b : Bool) (o : Option (List Kind)). if_so b (push k_word o)) (low n ∙ ap (λ (m : ℕ). eqb m 0) (sym eh)) (sym (eat-none st)))
+      bare nothing (n_num n) (eqb h 0) 0 (some k_word) refl (λ st. ap₂ (λ (b : Bool) (o : Option (List Kind)). if_so b (push k_word o)) (low n ∙ ap (λ (m : ℕ). eqb m 0) (sym eh)) (sym (eat-none st)))
   plain_node d h k (n_var x) rd at1 e n9 n10 = absurd (not_both e)
-  plain_node d h k (n_bin o) rd at1 e n9 n10 = bare (n_bin o) true 2 (some k_word) refl (λ st. refl)
-  plain_node d h k n_and rd at1 e n9 n10 = bare n_and true 1 none refl (λ st. refl)
-  plain_node d h k n_or rd at1 e n9 n10 = bare n_or true 1 none refl (λ st. refl)
-  plain_node d h k n_join rd at1 e n9 n10 = bare n_join true 1 (some k_word) refl (λ st. refl)
-  plain_node d h k (n_un o) rd at1 e n9 n10 = bare (n_un o) true 1 (some k_word) refl (λ st. refl)
+  plain_node d h k (n_bin o) rd at1 e n9 n10 = bare nothing (n_bin o) true 2 (some k_word) refl (λ st. refl)
+  plain_node d h k n_and rd at1 e n9 n10 = bare nothing n_and true 1 none refl (λ st. refl)
+  plain_node d h k n_or rd at1 e n9 n10 = bare nothing n_or true 1 none refl (λ st. refl)
+  plain_node d h k n_join rd at1 e n9 n10 = bare nothing n_join true 1 (some k_word) refl (λ st. refl)
+  plain_node d h k (n_un o) rd at1 e n9 n10 = bare nothing (n_un o) true 1 (some k_word) refl (λ st. refl)
   plain_node d h k (n_idx x) rd at1 e n9 n10 = absurd (not_both e)
   plain_node d h k (n_len x) rd at1 e n9 n10 = absurd (not_both e)
   plain_node d h k (n_call n x) rd at1 e n9 n10 = absurd (n9 refl)
   plain_node d h k (n_by n x) rd at1 e n9 n10 = absurd (n10 refl)
-  plain_node d h k n_in rd at1 e n9 n10 = bare n_in true 0 (some k_word) refl (λ st. ap (push k_word) (sym (eat-none st)))
+  plain_node d h k n_in rd at1 e n9 n10 = bare nothing n_in true 0 (some k_word) refl (λ st. ap (push k_word) (sym (eat-none st)))
   plain_node d h k (n_set x) rd at1 e n9 n10 = absurd (not_both e)
   plain_node d h k (n_store x) rd at1 e n9 n10 = absurd (not_both e)
-  plain_node d h k n_ex rd at1 e n9 n10 = bare n_ex true 1 none refl (λ st. refl)
-  plain_node d h k n_out rd at1 e n9 n10 = bare n_out true 1 none refl (λ st. refl)
-  plain_node d h k n_if rd at1 e n9 n10 = bare n_if true 1 none refl (λ st. refl)
-  plain_node d h k n_else rd at1 e n9 n10 = bare n_else true 0 none refl (λ st. sym (eat-none st))
-  plain_node d h k n_fi rd at1 e n9 n10 = bare n_fi true 0 none refl (λ st. sym (eat-none st))
-  plain_node d h k n_loop rd at1 e n9 n10 = bare n_loop true 0 none refl (λ st. sym (eat-none st))
-  plain_node d h k n_while rd at1 e n9 n10 = bare n_while true 1 none refl (λ st. refl)
-  plain_node d h k n_again rd at1 e n9 n10 = bare n_again true 0 none refl (λ st. sym (eat-none st))
-  plain_node d h k n_ret rd at1 e n9 n10 = bare n_ret true 1 none refl (λ st. refl)
-  plain_node d h k n_break rd at1 e n9 n10 = bare n_break (not (eqb d 0)) 0 none refl (λ st. ap₂ if_so (in_loop d) (sym (eat-none st)))
-  plain_node d h k n_next rd at1 e n9 n10 = bare n_next (not (eqb d 0)) 0 none refl (λ st. ap₂ if_so (in_loop d) (sym (eat-none st)))
-  plain_node d h k n_end rd at1 e n9 n10 = bare n_end true 0 none refl (λ st. sym (eat-none st))
+  plain_node d h k n_ex rd at1 e n9 n10 = bare nothing n_ex true 1 none refl (λ st. refl)
+  plain_node d h k n_out rd at1 e n9 n10 = bare nothing n_out true 1 none refl (λ st. refl)
+  plain_node d h k n_if rd at1 e n9 n10 = bare nothing n_if true 1 none refl (λ st. refl)
+  plain_node d h k n_else rd at1 e n9 n10 = bare nothing n_else true 0 none refl (λ st. sym (eat-none st))
+  plain_node d h k n_fi rd at1 e n9 n10 = bare nothing n_fi true 0 none refl (λ st. sym (eat-none st))
+  plain_node d h k n_loop rd at1 e n9 n10 = bare nothing n_loop true 0 none refl (λ st. sym (eat-none st))
+  plain_node d h k n_while rd at1 e n9 n10 = bare nothing n_while true 1 none refl (λ st. refl)
+  plain_node d h k n_again rd at1 e n9 n10 = bare nothing n_again true 0 none refl (λ st. sym (eat-none st))
+  plain_node d h k n_ret rd at1 e n9 n10 = bare nothing n_ret true 1 none refl (λ st. refl)
+  plain_node d h k n_break rd at1 e n9 n10 = bare nothing n_break (not (eqb d 0)) 0 none refl (λ st. ap₂ if_so (in_loop d) (sym (eat-none st)))
+  plain_node d h k n_next rd at1 e n9 n10 = bare nothing n_next (not (eqb d 0)) 0 none refl (λ st. ap₂ if_so (in_loop d) (sym (eat-none st)))
+  plain_node d h k n_end rd at1 e n9 n10 = bare nothing n_end true 0 none refl (λ st. sym (eat-none st))
   plain_node d h k (n_arg x) rd at1 e n9 n10 = absurd (not_both e)
 
   -- a node whose name has a kind
   pub named_node : (d k : ℕ) (t : Node) → ((x : Name) → Has w s (named x) → k ≡ kind_or (Γ.kind x)) → Has w i (node_row t) → wants_kind (tag_of t) ≡ true → Does w Γ d t (record { ok = suits (tag_of t) k; words = takes (tag_of t); params = nowhere; gives = gives (tag_of t) k })
   unfolding tag_of
   named_node d k (n_num n) it at1 e = absurd (not_both (sym e))
-  named_node d k (n_var x) it at1 e = bare (n_var x) (not (eqb k 3)) 0 (Γ.kind x) (it x (at_second at1)) (λ st. pushes (Γ.kind x) st ∙ ap (λ (m : ℕ). if_so (not (eqb m 3)) (give (Γ.kind x) (eat 0 [] st))) (sym (it x (at_second at1))))
+  named_node d k (n_var x) it at1 e = bare nothing (n_var x) (not (eqb k 3)) 0 (Γ.kind x) (it x (at_second at1)) (λ st. pushes (Γ.kind x) st ∙ ap (λ (m : ℕ). if_so (not (eqb m 3)) (give (Γ.kind x) (eat 0 [] st))) (sym (it x (at_second at1))))
   named_node d k (n_bin o) it at1 e = absurd (not_both (sym e))
   named_node d k n_and it at1 e = absurd (not_both (sym e))
   named_node d k n_or it at1 e = absurd (not_both (sym e))
   named_node d k n_join it at1 e = absurd (not_both (sym e))
   named_node d k (n_un o) it at1 e = absurd (not_both (sym e))
-  named_node d k (n_idx x) it at1 e = bare (n_idx x) (eqb k 1 || eqb k 2) 1 (some k_word) refl (λ st. ap (λ (b : Bool). if_so b (push k_word (eat 1 one st))) (arrays (Γ.kind x) ∙ ap (λ (m : ℕ). eqb m 1 || eqb m 2) (sym (it x (at_second at1)))))
-  named_node d k (n_len x) it at1 e = bare (n_len x) (eqb k 1 || eqb k 2) 0 (some k_word) refl (λ st. ap (λ (b : Bool). if_so b (some (st ++ one))) (arrays (Γ.kind x) ∙ ap (λ (m : ℕ). eqb m 1 || eqb m 2) (sym (it x (at_second at1)))) ∙ ap (λ (q : Option (List Kind)). if_so (eqb k 1 || eqb k 2) (push k_word q)) (sym (eat-none st)))
+  named_node d k (n_idx x) it at1 e = bare nothing (n_idx x) (eqb k 1 || eqb k 2) 1 (some k_word) refl (λ st. ap (λ (b : Bool). if_so b (push k_word (eat 1 one st))) (arrays (Γ.kind x) ∙ ap (λ (m : ℕ). eqb m 1 || eqb m 2) (sym (it x (at_second at1)))))
+  named_node d k (n_len x) it at1 e = bare nothing (n_len x) (eqb k 1 || eqb k 2) 0 (some k_word) refl (λ st. ap (λ (b : Bool). if_so b (some (st ++ one))) (arrays (Γ.kind x) ∙ ap (λ (m : ℕ). eqb m 1 || eqb m 2) (sym (it x (at_second at1)))) ∙ ap (λ (q : Option (List Kind)). if_so (eqb k 1 || eqb k 2) (push k_word q)) (sym (eat-none st)))
   named_node d k (n_call n x) it at1 e = absurd (not_both (sym e))
   named_node d k (n_by n x) it at1 e = absurd (not_both (sym e))
   named_node d k n_in it at1 e = absurd (not_both (sym e))
-  named_node d k (n_set x) it at1 e = bare (n_set x) (eqb k 0) 1 none refl (λ st. ap (λ (b : Bool). if_so b (eat 1 one st)) (word-kind (Γ.kind x) ∙ ap (λ (m : ℕ). eqb m 0) (sym (it x (at_second at1)))))
-  named_node d k (n_store x) it at1 e = bare (n_store x) (eqb k 1 || eqb k 2) 2 none refl (λ st. ap (λ (b : Bool). if_so b (eat 2 (k_word ∷ one) st)) (arrays (Γ.kind x) ∙ ap (λ (m : ℕ). eqb m 1 || eqb m 2) (sym (it x (at_second at1)))))
+  named_node d k (n_set x) it at1 e = bare nothing (n_set x) (eqb k 0) 1 none refl (λ st. ap (λ (b : Bool). if_so b (eat 1 one st)) (word-kind (Γ.kind x) ∙ ap (λ (m : ℕ). eqb m 0) (sym (it x (at_second at1)))))
+  named_node d k (n_store x) it at1 e = bare nothing (n_store x) (eqb k 1 || eqb k 2) 2 none refl (λ st. ap (λ (b : Bool). if_so b (eat 2 (k_word ∷ one) st)) (arrays (Γ.kind x) ∙ ap (λ (m : ℕ). eqb m 1 || eqb m 2) (sym (it x (at_second at1)))))
   named_node d k n_ex it at1 e = absurd (not_both (sym e))
   named_node d k n_out it at1 e = absurd (not_both (sym e))
   named_node d k n_if it at1 e = absurd (not_both (sym e))
@@ -201,7 +200,11 @@ module _ {w : List ℕ} (Γ : Ctx) {i s u : ℕ} (small : length w < 18446744073
   named_node d k n_break it at1 e = absurd (not_both (sym e))
   named_node d k n_next it at1 e = absurd (not_both (sym e))
   named_node d k n_end it at1 e = absurd (not_both (sym e))
-  named_node d k (n_arg x) it at1 e = bare (n_arg x) (not (eqb k 3)) 0 (Γ.kind x) (it x (at_second at1)) (λ st. pushes (Γ.kind x) st ∙ ap (λ (m : ℕ). if_so (not (eqb m 3)) (give (Γ.kind x) (eat 0 [] st))) (sym (it x (at_second at1))))
+  named_node d k (n_arg x) it at1 e = bare nothing (n_arg x) (not (eqb k 3)) 0 (Γ.kind x) (it x (at_second at1)) (λ st. pushes (Γ.kind x) st ∙ ap (λ (m : ℕ). if_so (not (eqb m 3)) (give (Γ.kind x) (eat 0 [] st))) (sym (it x (at_second at1))))
+
+module _ {w : List ℕ} (Γ : Ctx) {i s u : ℕ} (small : length w < 18446744073709551616) (second : s ≡ min (i + 1) 18446744073709551615) (third : u ≡ min (i + 2) 18446744073709551615) where
+  second_at : {a b : ℕ} {ws : List ℕ} → Has w i (a ∷ b ∷ ws) → Has w s (b ∷ ws)
+  second_at h = let h1 = has-next h in has_to (omega (arith, h1.inside, second)) h1
 
   -- a call
   pub call_node : (d : ℕ) (e : Effect) (n : ℕ) (t : Node) → Has w i (node_row t) → tag_of t ≡ 9 → n ≡ get_or w s 0 → ((x : Name) → Has w u (named x) → Asks w (Γ.params x) n 0 e) → Does w Γ d t e
@@ -216,7 +219,7 @@ module _ {w : List ℕ} (Γ : Ctx) {i s u : ℕ} (small : length w < 18446744073
   call_node d e m (n_idx x) at1 eq rd it = absurd (omega arith)
   call_node d e m (n_len x) at1 eq rd it = absurd (omega arith)
   call_node d e m (n_call n x) at1 eq rd it =
-      let h1 = at_second at1 in
+      let h1 = second_at at1 in
       let h2 = has-next (has-next at1) in
       let v = it x (has_to (omega (arith, h2.inside, third)) h2) in
       let en : m ≡ n = rd ∙ has_word h1 in
@@ -252,7 +255,7 @@ module _ {w : List ℕ} (Γ : Ctx) {i s u : ℕ} (small : length w < 18446744073
   table_node d e m (n_len x) at1 eq rd it = absurd (omega arith)
   table_node d e m (n_call n x) at1 eq rd it = absurd (omega arith)
   table_node d e m (n_by n x) at1 eq rd it =
-      let h1 = at_second at1 in
+      let h1 = second_at at1 in
       let h2 = has-next (has-next at1) in
       let v = it x (has_to (omega (arith, h2.inside, third)) h2) in
       let en : m ≡ n = rd ∙ has_word h1 in
@@ -308,19 +311,19 @@ replicate-length : (n : ℕ) → length (replicate n k_word) ≡ n
 replicate-length zero = refl
 replicate-length (suc n) = ap suc (replicate-length n)
 
-pub asks_none : {w : List ℕ} {o : Option (List Param)} (n words : ℕ) → o ≡ none → Asks w o n words (record { ok = false; words = words; params = nowhere; gives = 0 })
-asks_none n words e = record { asked = []; there = nothing; gives = refl; is = λ st. ap (λ (o : Option (List Param)). on_some o (λ qs. push k_word (eat (words + n) (replicate words k_word ++ kinds qs) st))) e }
+pub asks_none : {w : List ℕ} {o : Option (List Param)} {nowhere : Entries Locals} → Left local_row w nowhere [] → (n words : ℕ) → o ≡ none → Asks w o n words (record { ok = false; words = words; params = nowhere; gives = 0 })
+asks_none nothing n words e = record { asked = []; there = nothing; gives = refl; is = λ st. ap (λ (o : Option (List Param)). on_some o (λ qs. push k_word (eat (words + n) (replicate words k_word ++ kinds qs) st))) e }
 
-pub asks-some : {w : List ℕ} {o : Option (List Param)} {m : Listed} (n words : ℕ) (qs : List Param) → o ≡ some qs → IsListed w (map_list of_param qs) m → Asks w o n words (record { ok = eqb m.count n; words = words; params = m; gives = 0 })
-asks-some {w} {o} {m} n words qs e l = record { asked = map_list of_param qs; there = l; gives = refl; is = λ st. ap (λ (q : Option (List Param)). on_some q (λ qs. push k_word (eat (words + n) (replicate words k_word ++ kinds qs) st))) e ∙ go st (cases_eq m.count n) }
+pub asks-some : {w : List ℕ} {o : Option (List Param)} {m : Entries Locals} {c : ℕ} (n words : ℕ) (qs : List Param) → o ≡ some qs → Left local_row w m (map_list of_param qs) → c ≡ m.left → Asks w o n words (record { ok = eqb c n; words = words; params = m; gives = 0 })
+asks-some {w} {o} {m} {c} n words qs e l ec = record { asked = map_list of_param qs; there = l; gives = refl; is = λ st. ap (λ (q : Option (List Param)). on_some q (λ qs. push k_word (eat (words + n) (replicate words k_word ++ kinds qs) st))) e ∙ go st (cases_eq c n) }
   where
-    long : length qs ≡ m.count
-    long = sym (map-length of_param qs) ∙ l.long
+    long : length qs ≡ c
+    long = sym (map-length of_param qs) ∙ l.long ∙ sym ec
 
-    go : (st : List Kind) → (m.count ≡ n) ⊎ (m.count ≡ n → ⊥) → push k_word (eat (words + n) (replicate words k_word ++ kinds qs) st) ≡ if_so (eqb m.count n) (push k_word (eat (words + length (map_list of_param qs)) (replicate words k_word ++ local_kinds (map_list of_param qs)) st))
+    go : (st : List Kind) → (c ≡ n) ⊎ (c ≡ n → ⊥) → push k_word (eat (words + n) (replicate words k_word ++ kinds qs) st) ≡ if_so (eqb c n) (push k_word (eat (words + length (map_list of_param qs)) (replicate words k_word ++ local_kinds (map_list of_param qs)) st))
     go st (inl y) =
-        ap₂ (λ (u : ℕ) (ks : List Kind). push k_word (eat (words + u) (replicate words k_word ++ ks) st)) (sym y ∙ sym l.long) (param_kinds qs)
-        ∙ sym (ap (λ (b : Bool). if_so b (push k_word (eat (words + length (map_list of_param qs)) (replicate words k_word ++ local_kinds (map_list of_param qs)) st))) (eq-eqb m.count n y))
+        ap₂ (λ (u : ℕ) (ks : List Kind). push k_word (eat (words + u) (replicate words k_word ++ ks) st)) (sym y ∙ ec ∙ sym l.long) (param_kinds qs)
+        ∙ sym (ap (λ (b : Bool). if_so b (push k_word (eat (words + length (map_list of_param qs)) (replicate words k_word ++ local_kinds (map_list of_param qs)) st))) (eq-eqb c n y))
     go st (inr y) =
         ap (push k_word) (eat-long (words + n) (replicate words k_word ++ kinds qs) st (λ z. y (omega (arith, z, long, kinds-length qs, replicate-length words, length-append (replicate words k_word) (kinds qs)))))
-        ∙ sym (ap (λ (b : Bool). if_so b (push k_word (eat (words + length (map_list of_param qs)) (replicate words k_word ++ local_kinds (map_list of_param qs)) st))) (ne_eqb m.count n y))
+        ∙ sym (ap (λ (b : Bool). if_so b (push k_word (eat (words + length (map_list of_param qs)) (replicate words k_word ++ local_kinds (map_list of_param qs)) st))) (ne_eqb c n y))

@@ -1,15 +1,15 @@
 -- The tops of a program passed one by one: the two loops that look a name up at the top of a file.
-use Rattle.std.proofs.Common.{◌≡◌, ℕ, suc, ◌+◌, ◌<◌, ◌≤◌, min, Bool, true, false, not, ◌&&◌, ◌||◌, eqb, List, [], ◌∷◌, ◌++◌, length, get_or, drop, sym, refl, ap, ◌∙◌, subst, ap₂, append_assoc, append-nil, arith}
+use Rattle.std.proofs.Common.{◌≡◌, ℕ, suc, ◌+◌, ◌<◌, ◌≤◌, Bool, true, false, not, ◌&&◌, eqb, List, [], ◌∷◌, ◌++◌, length, sym, refl, ap, ◌∙◌, ap₂, arith, length-append}
 use mathlib.Core.Option.{Option, some, none}
 use Rattle.language.specs.Syntax.{pick, opt, Name, same, Item, i_word, i_arr, i_data, i_table, i_fn, i_use, File, Prog}
-use Rattle.language.specs.Words.{bit}
 use Rattle.language.specs.Meaning.{on_some, Top, tops, all_tops, top_of, as_fn, as_table, words_in, arrays_in, is_word, is_arr, is_table, is_fn}
 use Rattle.steps.specs.Generate.{pos}
+use Rattle.rows.specs.declared.kind.ItemKind.TheVariants.{Use}
+use Rattle.rows.specs.Kinds.{kind_of_item}
 use Rattle.rows.specs.Has.{Has, named}
-use Rattle.rows.specs.Trees.{list_row, item_no, name_of, tail_row, rest_row, item_row, file_row, prog_row}
-use Rattle.rows.proofs.Having.{has_word, has-next, has_left, has_right, has_to, has_as}
+use Rattle.rows.specs.Trees.{list_row, item_no, name_of, item_row, file_row, prog_row}
 use Rattle.names.specs.declared.found.Spot.{Spot}
-use Rattle.names.specs.Finds.{top_in, fns_in, tables_in, TopAt, Passes, Counted}
+use Rattle.names.specs.Finds.{top_in, fns_in, tables_in, TopAt, Passes}
 
 -- a top more, if it is one
 abbrev pub and_top : Option Top → List Top → List Top
@@ -46,42 +46,47 @@ arrays-step (i_table x fs) is = omega arith
 arrays-step (i_fn g) is = omega arith
 arrays-step (i_use x ys) is = omega arith
 
--- what the kind's number counts
-pub words-bit : (i : Item) → bit (eqb (item_no i) 0) ≡ words1 i
-words-bit (i_word x) = refl
-words-bit (i_arr r) = refl
-words-bit (i_data d x ns) = refl
-words-bit (i_table x fs) = refl
-words-bit (i_fn g) = refl
-words-bit (i_use x ys) = refl
+-- an item that is no use
+pub no_use : (i : Item) → (kind_of_item i ≡ Use → ⊥) → false ≡ eqb (item_no i) 5
+no_use (i_word x) n = refl
+no_use (i_arr r) n = refl
+no_use (i_data d x ns) n = refl
+no_use (i_table x fs) n = refl
+no_use (i_fn g) n = refl
+no_use (i_use x ys) n = absurd (n refl)
 
-pub arrays-bit : (i : Item) → bit (eqb (item_no i) 1 || eqb (item_no i) 2) ≡ arrays1 i
-arrays-bit (i_word x) = refl
-arrays-bit (i_arr r) = refl
-arrays-bit (i_data d x ns) = refl
-arrays-bit (i_table x fs) = refl
-arrays-bit (i_fn g) = refl
-arrays-bit (i_use x ys) = refl
+-- an item is one word, array, function or table at most
+words_le : (i : Item) → words1 i ≤ 1
+words_le (i_word x) = omega arith
+words_le (i_arr r) = omega arith
+words_le (i_data d x ns) = omega arith
+words_le (i_table x fs) = omega arith
+words_le (i_fn g) = omega arith
+words_le (i_use x ys) = omega arith
 
-pub fns-bit : (i : Item) → bit (eqb (item_no i) 4) ≡ fns_in i
-fns-bit (i_word x) = refl
-fns-bit (i_arr r) = refl
-fns-bit (i_data d x ns) = refl
-fns-bit (i_table x fs) = refl
-fns-bit (i_fn g) = refl
-fns-bit (i_use x ys) = refl
+arrays-le : (i : Item) → arrays1 i ≤ 1
+arrays-le (i_word x) = omega arith
+arrays-le (i_arr r) = omega arith
+arrays-le (i_data d x ns) = omega arith
+arrays-le (i_table x fs) = omega arith
+arrays-le (i_fn g) = omega arith
+arrays-le (i_use x ys) = omega arith
 
-pub tables-bit : (i : Item) → bit (eqb (item_no i) 3) ≡ tables_in i
-tables-bit (i_word x) = refl
-tables-bit (i_arr r) = refl
-tables-bit (i_data d x ns) = refl
-tables-bit (i_table x fs) = refl
-tables-bit (i_fn g) = refl
-tables-bit (i_use x ys) = refl
+fns-le : (i : Item) → fns_in i ≤ 1
+fns-le (i_word x) = omega arith
+fns-le (i_arr r) = omega arith
+fns-le (i_data d x ns) = omega arith
+fns-le (i_table x fs) = omega arith
+fns-le (i_fn g) = omega arith
+fns-le (i_use x ys) = omega arith
 
-pub bit_le : (b : Bool) → bit b ≤ 1
-bit_le true = omega arith
-bit_le false = omega arith
+tables_le : (i : Item) → tables_in i ≤ 1
+tables_le (i_word x) = omega arith
+tables_le (i_arr r) = omega arith
+tables_le (i_data d x ns) = omega arith
+tables_le (i_table x fs) = omega arith
+tables_le (i_fn g) = omega arith
+tables_le (i_use x ys) = omega arith
 
 -- whether a top is x of the file f, and one of a sort
 hits : Option Top → Name → Name → Bool
@@ -148,30 +153,9 @@ pub record Narrows (p : Prog) (F X : Name) (n m : ℕ) (ts : List Top) : Type 0 
   pub fns : pos as_fn (all_tops p 0 0) F X ≡ n + pos as_fn ts F X
   pub tables : pos as_table (all_tops p 0 0) F X ≡ m + pos as_table ts F X
 
--- before a file, n having been passed
-pub record Outer (w : List ℕ) (p : Prog) (F X : Name) (s : Spot) (n : ℕ) : Type 0 where
-  pub left : Prog
-  pub here : Has w s.file (list_row file_row left)
-  pub long : n + length left ≡ length p
-  pub narrow : Narrows p F X s.fns s.tables (all_tops left s.words s.arrays)
-  pub counted : Counted s s.file
-
 -- what is left in a file, and behind it
 abbrev pub rest_tops : Name → List Item → Prog → ℕ → ℕ → List Top
 rest_tops f is fs w a = tops f is w a ++ all_tops fs (w + words_in is) (a + length (arrays_in is))
-
--- before an item, k of m having been passed in the file
-pub record Inner (w : List ℕ) (p : Prog) (F X : Name) (s : Spot) (n m k : ℕ) (b : Bool) : Type 0 where
-  pub file : Name
-  pub items : List Item
-  pub left : Prog
-  pub at_file : Has w s.file (named file)
-  pub here : Has w s.item (list_row item_row items ++ list_row file_row left)
-  pub is_it : b ≡ same file F
-  pub long : k + length items ≡ m
-  pub more : n + 1 + length left ≡ length p
-  pub narrow : Narrows p F X s.fns s.tables (rest_tops file items left s.words s.arrays)
-  pub counted : Counted s s.item
 
 and_app : (o : Option Top) (ts rs : List Top) → and_top o ts ++ rs ≡ and_top o (ts ++ rs)
 and_app none ts rs = refl
@@ -183,166 +167,113 @@ rest-step f i is fs w a =
     let g : a + length (arrays_in (i ∷ is)) ≡ (a + arrays1 i) + length (arrays_in is) = omega (arith, arrays-step i is) in
     ap₂ (λ (ts rs : List Top). ts ++ rs) (tops_step f i is w a) (ap₂ (all_tops fs) e g) ∙ and_app (top_in f i w a) (tops f is (w + words1 i) (a + arrays1 i)) (all_tops fs ((w + words1 i) + words_in is) ((a + arrays1 i) + length (arrays_in is)))
 
-narrow-more : {p : Prog} {F X : Name} (s t : Spot) (f : Name) (i : Item) (is : List Item) (fs : Prog) → Passes i s t → (not (eqb (item_no i) 5) && (same f F && same (name_of i) X)) ≡ false → Narrows p F X s.fns s.tables (rest_tops f (i ∷ is) fs s.words s.arrays) → Narrows p F X t.fns t.tables (rest_tops f is fs t.words t.arrays)
-narrow-more {p} {F} {X} s t f i is fs z o na =
-    let e = rest-step f i is fs s.words s.arrays in
-    let r = rest_tops f is fs (s.words + words1 i) (s.arrays + arrays1 i) in
-    let d : r ≡ rest_tops f is fs t.words t.arrays = ap₂ (rest_tops f is fs) (sym z.words) (sym z.arrays) in
-    let u = top_in f i s.words s.arrays in
-    let no : hits u F X ≡ false = hit f i s.words s.arrays F X ∙ o in
-    let q = ap (λ (ts : List Top). pos as_fn ts F X) e ∙ pos_skip as_fn u F X r no in
-    let q1 = one-fn f i s.words s.arrays in
-    let q2 = ap (λ (ts : List Top). pos as_fn ts F X) d in
-    let v = ap (λ (ts : List Top). pos as_table ts F X) e ∙ pos_skip as_table u F X r no in
-    let v1 = one_table f i s.words s.arrays in
-    let v2 = ap (λ (ts : List Top). pos as_table ts F X) d in
+-- what was counted, with the items that are left, is at most n
+pub record Counted (s : Spot) (left n : ℕ) : Type 0 where
+  pub words : s.words + left ≤ n
+  pub arrays : s.arrays + left ≤ n
+  pub fns : s.fns + left ≤ n
+  pub tables : s.tables + left ≤ n
+
+-- the items of files
+pub items-in : Prog → ℕ
+items-in [] = 0
+items-in (f ∷ fs) = length f.items + items-in fs
+
+long_items : (is : List Item) → length is ≤ length (list_row item_row is)
+long_items [] = omega arith
+long_items (i ∷ is) = omega (arith, long_items is, length-append (item_row i) (list_row item_row is))
+
+long_files : (fs : Prog) → items-in fs ≤ length (list_row file_row fs)
+unfolding items-in
+long_files [] = omega arith
+long_files (f ∷ fs) = omega (arith, long_files fs, long_items f.items, length-append (file_row f) (list_row file_row fs), length-append (named f.name) (length f.items ∷ list_row item_row f.items))
+
+-- before a file: only the files fs are left to look at
+pub record Files (w : List ℕ) (p : Prog) (F X : Name) (s : Spot) (fs : Prog) : Type 0 where
+  pub narrow : Narrows p F X s.fns s.tables (all_tops fs s.words s.arrays)
+  pub counted : Counted s (items-in fs) (length w)
+
+-- before an item of the file f: only the items is, and the files fs behind it, are left
+pub record Items (w : List ℕ) (p : Prog) (F X : Name) (s : Spot) (f : Name) (fs : Prog) (is : List Item) : Type 0 where
+  pub narrow : Narrows p F X s.fns s.tables (rest_tops f is fs s.words s.arrays)
+  pub counted : Counted s (length is + items-in fs) (length w)
+
+pub files_first : {w : List ℕ} {p : Prog} {F X : Name} {m n : ℕ} → w ≡ prog_row p → Files w p F X (record { file = m; item = n; words = 0; arrays = 0; fns = 0; tables = 0 }) p
+files_first {w} {p} e =
+    let l = long_files p in
+    let k = ap length e in
+    record { narrow = record { top = refl; fns = omega arith; tables = omega arith }; counted = record { words = omega arith; arrays = omega arith; fns = omega arith; tables = omega arith } }
+
+pub files_last : {w : List ℕ} {p : Prog} {F X : Name} {s : Spot} → Files w p F X s [] → top_of (all_tops p 0 0) F X ≡ none
+files_last v = v.narrow.top
+
+-- into a file, and behind it
+pub into_file : {w : List ℕ} {p : Prog} {F X : Name} {s : Spot} (f : File) (fs : Prog) → Files w p F X s (f ∷ fs) → Items w p F X s f.name fs f.items
+unfolding items-in
+into_file f fs v = record { narrow = v.narrow; counted = v.counted }
+
+pub behind_file : {w : List ℕ} {p : Prog} {F X f : Name} {s : Spot} {fs : Prog} → Items w p F X s f fs [] → Files w p F X s fs
+behind_file {F = F} {X = X} {s = s} {fs = fs} v =
+    let g : all_tops fs (s.words + 0) (s.arrays + 0) ≡ all_tops fs s.words s.arrays = ap₂ (all_tops fs) (omega arith) (omega arith) in
+    let na = v.narrow in
+    let k = v.counted in
     record {
-      top = na.top ∙ ap (λ (ts : List Top). top_of ts F X) e ∙ top_skip u F X r no ∙ ap (λ (ts : List Top). top_of ts F X) d;
-      fns = omega (arith, na.fns, q, q1, q2, z.fns);
-      tables = omega (arith, na.tables, v, v1, v2, z.tables);
+      narrow = record { top = na.top ∙ ap (λ (ts : List Top). top_of ts F X) g; fns = na.fns ∙ ap (λ (ts : List Top). s.fns + pos as_fn ts F X) g; tables = na.tables ∙ ap (λ (ts : List Top). s.tables + pos as_table ts F X) g };
+      counted = record { words = omega (arith, k.words); arrays = omega (arith, k.arrays); fns = omega (arith, k.fns); tables = omega (arith, k.tables) };
     }
 
--- the name of an item that stands at a place
-pub item_name : {w : List ℕ} {a : ℕ} (i : Item) → Has w a (item_row i) → Has w (a + 2) (named (name_of i))
-unfolding rest_row
-item_name {w} {a} i h = has_to (omega arith) (has_left (named (name_of i)) (tail_row i) (has-next (has-next h)))
+module _ {w : List ℕ} {p : Prog} {F X f : Name} {s : Spot} (small : length w < 18446744073709551616) (i : Item) (is : List Item) (fs : Prog) (v : Items w p F X s f fs (i ∷ is)) where
+  -- an item that is not the one sought
+  pub past_item : {t : Spot} → Passes i s t → (not (eqb (item_no i) 5) && (same f F && same (name_of i) X)) ≡ false → Items w p F X t f fs is
+  past_item {t} z o =
+      let k = v.counted in
+      let ew : t.words ≡ s.words + words1 i = omega (arith, z.words, k.words, words_le i) in
+      let ea : t.arrays ≡ s.arrays + arrays1 i = omega (arith, z.arrays, k.arrays, arrays-le i) in
+      let ef : t.fns ≡ s.fns + fns_in i = omega (arith, z.fns, k.fns, fns-le i) in
+      let et : t.tables ≡ s.tables + tables_in i = omega (arith, z.tables, k.tables, tables_le i) in
+      let na = v.narrow in
+      let e = rest-step f i is fs s.words s.arrays in
+      let r = rest_tops f is fs (s.words + words1 i) (s.arrays + arrays1 i) in
+      let d : r ≡ rest_tops f is fs t.words t.arrays = ap₂ (rest_tops f is fs) (sym ew) (sym ea) in
+      let u = top_in f i s.words s.arrays in
+      let other : hits u F X ≡ false = hit f i s.words s.arrays F X ∙ o in
+      let q = ap (λ (ts : List Top). pos as_fn ts F X) e ∙ pos_skip as_fn u F X r other in
+      let q1 = one-fn f i s.words s.arrays in
+      let q2 = ap (λ (ts : List Top). pos as_fn ts F X) d in
+      let m = ap (λ (ts : List Top). pos as_table ts F X) e ∙ pos_skip as_table u F X r other in
+      let m1 = one_table f i s.words s.arrays in
+      let m2 = ap (λ (ts : List Top). pos as_table ts F X) d in
+      record {
+        narrow = record {
+          top = na.top ∙ ap (λ (ts : List Top). top_of ts F X) e ∙ top_skip u F X r other ∙ ap (λ (ts : List Top). top_of ts F X) d;
+          fns = omega (arith, na.fns, q, q1, q2, ef);
+          tables = omega (arith, na.tables, m, m1, m2, et);
+        };
+        counted = record { words = omega (arith, ew, k.words, words_le i); arrays = omega (arith, ea, k.arrays, arrays-le i); fns = omega (arith, ef, k.fns, fns-le i); tables = omega (arith, et, k.tables, tables_le i) };
+      }
 
--- what follows it
-pub item_tail : {w : List ℕ} {a : ℕ} (i : Item) → Has w a (item_row i) → Has w ((a + 2) + (length (name_of i) + 1)) (tail_row i)
-unfolding rest_row
-item_tail {w} {a} i h = has_to (omega arith) (has_right (named (name_of i)) (tail_row i) (has-next (has-next h)))
-
-first-item : {w : List ℕ} {a : ℕ} (i : Item) (is : List Item) (fs : Prog) → Has w a (list_row item_row (i ∷ is) ++ list_row file_row fs) → Has w a (item_row i ++ (list_row item_row is ++ list_row file_row fs))
-first-item i is fs h = has_as (append_assoc (item_row i) (list_row item_row is) (list_row file_row fs)) h
-
--- what the test of an item says
-abbrev pub Declares : List ℕ → Bool → ℕ → List ℕ → ℕ → Bool → Type 0
-Declares w b a v n r = (i : Item) (x : Name) → Has w a (item_row i) → Has v n (named x) → r ≡ (not (eqb (item_no i) 5) && (b && same (name_of i) x))
-
-pub declared : {w v : List ℕ} {n a u : ℕ} {c : Bool} (b : Bool) → length w < 18446744073709551616 → n ≡ get_or w a 0 → u ≡ min (a + 2) 18446744073709551615 → {k : ℕ} → ((y z : Name) → Has w u (named y) → Has v k (named z) → c ≡ same y z) → (i : Item) (x : Name) → Has w a (item_row i) → Has v k (named x) → (not (eqb n 5) && (b && c)) ≡ (not (eqb (item_no i) 5) && (b && same (name_of i) x))
-declared {w} {v} {n} {a} {u} {c} b small rd sum it i x h hx =
-    let hn = item_name i h in
-    ap₂ (λ (m : ℕ) (t : Bool). not (eqb m 5) && (b && t)) (rd ∙ has_word h) (it (name_of i) x (has_to (omega (arith, hn.inside)) hn) hx)
-
-module _ {w o : List ℕ} {p : Prog} {F X : Name} {s : Spot} {n m k e : ℕ} {b : Bool} (lt : k < m) (hx : Has o e (named X)) where
-  pub inner_more : {t : Spot} → Declares w b s.item o e false → ((i : Item) → Has w s.item (item_row i) → Counted s s.item → Passes i s t) → Inner w p F X s n m k b → Inner w p F X t n m (k + 1) b
-  inner_more {t} d st v = go v.items v.here v.long v.narrow
-    where
-      go : (is : List Item) → Has w s.item (list_row item_row is ++ list_row file_row v.left) → k + length is ≡ m → Narrows p F X s.fns s.tables (rest_tops v.file is v.left s.words s.arrays) → Inner w p F X t n m (k + 1) b
-      go [] h l na = absurd (omega arith)
-      go (i ∷ is) h l na =
-          let h1 = first-item i is v.left h in
-          let hi = has_left (item_row i) (list_row item_row is ++ list_row file_row v.left) h1 in
-          let hr = has_right (item_row i) (list_row item_row is ++ list_row file_row v.left) h1 in
-          let z = st i hi v.counted in
-          let bw : words1 i ≤ 1 = subst (λ (y : ℕ). y ≤ 1) (words-bit i) (bit_le _) in
-          let ba : arrays1 i ≤ 1 = subst (λ (y : ℕ). y ≤ 1) (arrays-bit i) (bit_le _) in
-          let bf : fns_in i ≤ 1 = subst (λ (y : ℕ). y ≤ 1) (fns-bit i) (bit_le _) in
-          let bt : tables_in i ≤ 1 = subst (λ (y : ℕ). y ≤ 1) (tables-bit i) (bit_le _) in
-          let no = ap (λ (c : Bool). not (eqb (item_no i) 5) && (c && same (name_of i) X)) (sym v.is_it) ∙ sym (d i X hi hx) in
-          record {
-            file = v.file;
-            items = is;
-            left = v.left;
-            at_file = has_to (sym z.file) v.at_file;
-            here = has_to (omega (arith, z.item)) hr;
-            is_it = v.is_it;
-            long = omega arith;
-            more = v.more;
-            narrow = narrow-more s t v.file i is v.left z no na;
-            counted = record { words = omega (arith, z.words, z.item, v.counted.words); arrays = omega (arith, z.arrays, z.item, v.counted.arrays); fns = omega (arith, z.fns, z.item, v.counted.fns); tables = omega (arith, z.tables, z.item, v.counted.tables) };
-          }
-
-  pub inner_found : Declares w b s.item o e true → Inner w p F X s n m k b → TopAt w (all_tops p 0 0) F X s
-  inner_found d v = go v.items v.here v.long v.narrow
+  -- the item sought
+  pub this_top : {a b : ℕ} → Has w a (named f) → Has w b (item_row i) → (not (eqb (item_no i) 5) && (same f F && same (name_of i) X)) ≡ true → TopAt w (all_tops p 0 0) F X (record { file = a; item = b; words = s.words; arrays = s.arrays; fns = s.fns; tables = s.tables })
+  this_top hf hi o =
+      let na = v.narrow in
+      let u = top_in f i s.words s.arrays in
+      let hit1 : hits u F X ≡ true = hit f i s.words s.arrays F X ∙ o in
+      let g = rest-step f i is fs s.words s.arrays in
+      let rs = rest_tops f is fs (s.words + words1 i) (s.arrays + arrays1 i) in
+      let q = ap (λ (ts : List Top). pos as_fn ts F X) g ∙ pos-here as_fn u F X rs hit1 in
+      let q1 = ap (λ (ts : List Top). pos as_table ts F X) g ∙ pos-here as_table u F X rs hit1 in
+      record {
+        top = record { file = f; item = i; at_file = hf; at_item = hi; is = na.top ∙ ap (λ (ts : List Top). top_of ts F X) g ∙ top-here u F X rs hit1; not_use = not_use (eqb (item_no i) 5) (same f F && same (name_of i) X) (sym o) };
+        fns = omega (arith, na.fns, q);
+        tables = omega (arith, na.tables, q1);
+      }
     where
       not_use : (q c : Bool) → true ≡ (not q && c) → q ≡ false
       not_use true c e1 = e1
       not_use false c e1 = refl
 
-      go : (is : List Item) → Has w s.item (list_row item_row is ++ list_row file_row v.left) → k + length is ≡ m → Narrows p F X s.fns s.tables (rest_tops v.file is v.left s.words s.arrays) → TopAt w (all_tops p 0 0) F X s
-      go [] h l na = absurd (omega arith)
-      go (i ∷ is) h l na =
-          let hi = has_left (item_row i) (list_row item_row is ++ list_row file_row v.left) (first-item i is v.left h) in
-          let u = top_in v.file i s.words s.arrays in
-          let yes1 : hits u F X ≡ true = hit v.file i s.words s.arrays F X ∙ ap (λ (c : Bool). not (eqb (item_no i) 5) && (c && same (name_of i) X)) (sym v.is_it) ∙ sym (d i X hi hx) in
-          let g = rest-step v.file i is v.left s.words s.arrays in
-          let rs = rest_tops v.file is v.left (s.words + words1 i) (s.arrays + arrays1 i) in
-          let q = ap (λ (ts : List Top). pos as_fn ts F X) g ∙ pos-here as_fn u F X rs yes1 in
-          let q1 = ap (λ (ts : List Top). pos as_table ts F X) g ∙ pos-here as_table u F X rs yes1 in
-          record {
-            top = record { file = v.file; item = i; at_file = v.at_file; at_item = hi; is = na.top ∙ ap (λ (ts : List Top). top_of ts F X) g ∙ top-here u F X rs yes1; not_use = not_use (eqb (item_no i) 5) (b && same (name_of i) X) (d i X hi hx) };
-            fns = omega (arith, na.fns, q);
-            tables = omega (arith, na.tables, q1);
-          }
-
-pub outer_none : {w : List ℕ} {p : Prog} {F X : Name} → w ≡ prog_row p → Outer w p F X (record { file = 1; item = 1; words = 0; arrays = 0; fns = 0; tables = 0 }) 0
-outer_none {w} {p} {F} {X} e =
-    record {
-      left = p;
-      here = record { rest = []; is = ap (drop 1) e ∙ sym (append-nil (list_row file_row p)); inside = omega (arith, ap length e) };
-      long = omega arith;
-      narrow = record { top = refl; fns = omega arith; tables = omega arith };
-      counted = record { words = omega arith; arrays = omega arith; fns = omega arith; tables = omega arith };
-    }
-
-pub outer_all : {w : List ℕ} {p : Prog} {F X : Name} {s : Spot} {n : ℕ} → w ≡ prog_row p → n ≡ get_or w 0 0 → Outer w p F X s n → top_of (all_tops p 0 0) F X ≡ none
-outer_all {w} {p} {F} {X} {s} {n} e g v = go v.left v.long v.narrow.top
-  where
-    len : n ≡ length p
-    len = g ∙ ap (λ (l : List ℕ). get_or l 0 0) e
-
-    go : (fs : Prog) → n + length fs ≡ length p → top_of (all_tops p 0 0) F X ≡ top_of (all_tops fs s.words s.arrays) F X → top_of (all_tops p 0 0) F X ≡ none
-    go [] l t = t
-    go (f ∷ fs) l t = absurd (omega (arith, len))
-
--- the parts of a file before others
-pub file_parts : {w : List ℕ} {a d : ℕ} (f : File) (fs : Prog) → Has w a (list_row file_row (f ∷ fs)) → ((y : Name) → Has w a (named y) → d ≡ a + (length y + 1)) → Has w a (named f.name) × Has w d ((length f.items ∷ list_row item_row f.items) ++ list_row file_row fs) × (d ≡ a + (length f.name + 1))
-file_parts {w} {a} {d} f fs h to =
-    let body = length f.items ∷ list_row item_row f.items in
-    let h1 = has_as (append_assoc (named f.name) body (list_row file_row fs)) h in
-    let hn = has_left (named f.name) (body ++ list_row file_row fs) h1 in
-    let e1 = to f.name hn in
-    (hn, has_to {j = d} (omega (arith, e1)) (has_right (named f.name) (body ++ list_row file_row fs) h1), e1)
-
--- into a file
-pub outer_inner : {w : List ℕ} {p : Prog} {F X : Name} {s : Spot} {n m a d j : ℕ} {b : Bool} → length w < 18446744073709551616 → w ≡ prog_row p → n < get_or w 0 0 → Has w j (named F) → ((y z : Name) → Has w s.file (named y) → Has w j (named z) → b ≡ same y z) → ((y : Name) → Has w s.file (named y) → d ≡ s.file + (length y + 1)) → m ≡ get_or w d 0 → a ≡ min (d + 1) 18446744073709551615 → Outer w p F X s n → Inner w p F X (record { file = s.file; item = a; words = s.words; arrays = s.arrays; fns = s.fns; tables = s.tables }) n m 0 b
-outer_inner {w} {p} {F} {X} {s} {n} {m} {a} {d} {j} {b} small e lt hf it to rd sum v = go v.left v.here v.long v.narrow
-  where
-    len : get_or w 0 0 ≡ length p
-    len = ap (λ (l : List ℕ). get_or l 0 0) e
-
-    go : (fs : Prog) → Has w s.file (list_row file_row fs) → n + length fs ≡ length p → Narrows p F X s.fns s.tables (all_tops fs s.words s.arrays) → Inner w p F X (record { file = s.file; item = a; words = s.words; arrays = s.arrays; fns = s.fns; tables = s.tables }) n m 0 b
-    go [] h l na = absurd (omega (arith, len))
-    go (f ∷ fs) h l na =
-        let z = file_parts f fs h to in
-        let e1 = z.2 in
-        let hi = has-next z.1 in
-        record {
-          file = f.name;
-          items = f.items;
-          left = fs;
-          at_file = z.0;
-          here = has_to (omega (arith, sum, hi.inside)) hi;
-          is_it = it f.name F z.0 hf;
-          long = omega (arith, rd, has_word z.1);
-          more = omega arith;
-          narrow = na;
-          counted = record { words = omega (arith, e1, sum, v.counted.words, hi.inside); arrays = omega (arith, e1, sum, v.counted.arrays, hi.inside); fns = omega (arith, e1, sum, v.counted.fns, hi.inside); tables = omega (arith, e1, sum, v.counted.tables, hi.inside) };
-        }
-
--- behind a file
-pub inner_outer : {w : List ℕ} {p : Prog} {F X : Name} {s : Spot} {n m k : ℕ} {b : Bool} → m ≤ k → Inner w p F X s n m k b → Outer w p F X (record { file = s.item; item = s.item; words = s.words; arrays = s.arrays; fns = s.fns; tables = s.tables }) (n + 1)
-inner_outer {w} {p} {F} {X} {s} {n} {m} {k} {b} le v = go v.items v.here v.long v.narrow
-  where
-    go : (is : List Item) → Has w s.item (list_row item_row is ++ list_row file_row v.left) → k + length is ≡ m → Narrows p F X s.fns s.tables (rest_tops v.file is v.left s.words s.arrays) → Outer w p F X (record { file = s.item; item = s.item; words = s.words; arrays = s.arrays; fns = s.fns; tables = s.tables }) (n + 1)
-    go [] h l na =
-        let g : all_tops v.left (s.words + 0) (s.arrays + 0) ≡ all_tops v.left s.words s.arrays = ap₂ (all_tops v.left) (omega arith) (omega arith) in
-        record {
-          left = v.left;
-          here = h;
-          long = v.more;
-          narrow = record { top = na.top ∙ ap (λ (ts : List Top). top_of ts F X) g; fns = na.fns ∙ ap (λ (ts : List Top). s.fns + pos as_fn ts F X) g; tables = na.tables ∙ ap (λ (ts : List Top). s.tables + pos as_table ts F X) g };
-          counted = record { words = v.counted.words; arrays = v.counted.arrays; fns = v.counted.fns; tables = v.counted.tables };
-        }
-    go (i ∷ is) h l na = absurd (omega arith)
+-- two tests made apart
+pub tested : (b c n : Bool) {r : Bool} → r ≡ (b && (not n && c)) → (not n && (b && c)) ≡ r
+tested true c n e = sym e
+tested false c true e = sym e
+tested false c false e = sym e

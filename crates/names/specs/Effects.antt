@@ -1,14 +1,14 @@
 -- What a node of a body asks of the pile of kinds and gives to it, by its tag.
 use Rattle.std.specs.Prelude.{◌≡◌, ℕ, ◌+◌, ◌-◌, min, Bool, true, not, ◌||◌, List, ◌++◌, length, replicate, ◌==◌}
 use Rattle.std.proofs.Math.Option.{Option, some, none}
-use Rattle.names.specs.declared.found.Listed.{Listed}
-use Rattle.names.specs.declared.found.Effect.{Effect}
+use Rattle.limits.specs.Entries.{Left}
+use Rattle.names.specs.declared.asking.Effect.{Effect}
 use Rattle.language.specs.Syntax.{pick, Kind, k_word, Param}
 use Rattle.language.specs.Meaning.{on_some}
 use Rattle.rows.specs.Nodes.{Node}
-use Rattle.rows.specs.Trees.{Local, map_list}
+use Rattle.rows.specs.Trees.{Local, map_list, local_row}
 use Rattle.names.specs.Fold.{Ctx, kinds, eat, push, if_so, step}
-use Rattle.names.specs.Kinds.{kind_or, IsListed}
+use Rattle.names.specs.Kinds.{kind_or}
 
 -- how many words are asked for
 abbrev pub takes : ℕ → ℕ
@@ -40,14 +40,10 @@ give (some k) o = push k o
 abbrev pub local_kinds : List Local → List Kind
 local_kinds ls = map_list (λ (l : Local). l.kind) ls
 
--- names that stand nowhere
-abbrev pub nowhere : Listed
-nowhere = record { place = 0; count = 0 }
-
 -- the node t, in d loops, does what e says
 pub record Does (row : List ℕ) (Γ : Ctx) (d : ℕ) (t : Node) (e : Effect) : Type 0 where
   pub asked : List Local
-  pub there : IsListed row asked e.params
+  pub there : Left local_row row e.params asked
   pub given : Option Kind
   pub gives : e.gives ≡ kind_or given
   pub is : (st : List Kind) → step Γ d t st ≡ if_so e.ok (give given (eat (e.words + length asked) (replicate e.words k_word ++ local_kinds asked) st))
@@ -55,6 +51,6 @@ pub record Does (row : List ℕ) (Γ : Ctx) (d : ℕ) (t : Node) (e : Effect) : 
 -- a call with n arguments, of a function with the parameters o, behind so many words
 pub record Asks (row : List ℕ) (o : Option (List Param)) (n words : ℕ) (e : Effect) : Type 0 where
   pub asked : List Local
-  pub there : IsListed row asked e.params
+  pub there : Left local_row row e.params asked
   pub gives : e.gives ≡ 0
   pub is : (st : List Kind) → on_some o (λ qs. push k_word (eat (words + n) (replicate words k_word ++ kinds qs) st)) ≡ if_so e.ok (push k_word (eat (e.words + length asked) (replicate e.words k_word ++ local_kinds asked) st))

@@ -1,5 +1,5 @@
 -- What look-ups answer: a function's own name as the generator numbers it, what stands at the top, the file that a name is used from.
-use Rattle.std.specs.Prelude.{◌≡◌, ℕ, ◌+◌, ◌≤◌, Bool, false, List, [], ◌∷◌, length, MatchOption, nat_eq}
+use Rattle.std.specs.Prelude.{◌≡◌, ℕ, ◌+◌, min, Bool, false, List, [], ◌∷◌, length, MatchOption, nat_eq}
 use Rattle.std.proofs.Math.Option.{Option, some, none}
 use Rattle.std.specs.declared.option.Option as std
 use Rattle.names.specs.declared.found.Spot.{Spot}
@@ -8,7 +8,8 @@ use Rattle.language.specs.Syntax.{Name, listed, Kind, k_word, k_arr, Item, i_wor
 use Rattle.language.specs.Meaning.{Top, top_of, resolve, as_fn, as_table, words_in, arrays_in, is_word, is_arr, is_table, is_fn}
 use Rattle.steps.specs.Generate.{Slot, Ref, r_word, r_arr, find, slot_of, pos, number}
 use Rattle.rows.specs.Has.{Has, named}
-use Rattle.rows.specs.Trees.{Local, map_list, list_row, kind_no, item_no, item_row, rest_row}
+use Rattle.rows.specs.Kinds.{local_kind}
+use Rattle.rows.specs.Trees.{Local, map_list, item_no, item_row}
 
 abbrev pub local_names : List Local → List Name
 local_names ls = map_list (λ (l : Local). l.name) ls
@@ -30,7 +31,7 @@ pub record IsOwn (ss : List Slot) (x : Name) (o : Own) : Type 0 where
   pub ref : Ref
   pub is : find ss x 0 0 ≡ some ref
   pub index : o.index ≡ ref_index ref
-  pub kind : o.kind ≡ kind_no (ref_kind ref)
+  pub kind : o.kind ≡ local_kind (ref_kind ref)
 
 abbrev pub FindsOwn : List Slot → Name → std.Option Own → Type 0
 FindsOwn ss x r = MatchOption r (find ss x 0 0 ≡ none) (IsOwn ss x)
@@ -63,19 +64,10 @@ tables_in (i_use x ys) = 0
 
 -- one item on
 pub record Passes (i : Item) (s t : Spot) : Type 0 where
-  pub file : t.file ≡ s.file
-  pub item : t.item ≡ s.item + (2 + length (rest_row i))
-  pub words : t.words ≡ s.words + words_in (i ∷ [])
-  pub arrays : t.arrays ≡ s.arrays + length (arrays_in (i ∷ []))
-  pub fns : t.fns ≡ s.fns + fns_in i
-  pub tables : t.tables ≡ s.tables + tables_in i
-
--- what was counted is at most what was passed
-pub record Counted (s : Spot) (n : ℕ) : Type 0 where
-  pub words : s.words ≤ n
-  pub arrays : s.arrays ≤ n
-  pub fns : s.fns ≤ n
-  pub tables : s.tables ≤ n
+  pub words : t.words ≡ min (s.words + words_in (i ∷ [])) 18446744073709551615
+  pub arrays : t.arrays ≡ min (s.arrays + length (arrays_in (i ∷ []))) 18446744073709551615
+  pub fns : t.fns ≡ min (s.fns + fns_in i) 18446744073709551615
+  pub tables : t.tables ≡ min (s.tables + tables_in i) 18446744073709551615
 
 -- the item at s, in its file, is the top t
 pub record IsTop (row : List ℕ) (s : Spot) (t : Option Top) : Type 0 where
@@ -94,13 +86,6 @@ pub record TopAt (row : List ℕ) (ts : List Top) (f x : Name) (s : Spot) : Type
 
 abbrev pub FindsTop : List ℕ → List Top → Name → Name → std.Option Spot → Type 0
 FindsTop row ts f x r = MatchOption r (top_of ts f x ≡ none) (TopAt row ts f x)
-
--- the number of items, and the items, stand at a
-pub record IsItems (row : List ℕ) (is : List Item) (a : ℕ) : Type 0 where
-  pub here : Has row a (length is ∷ list_row item_row is)
-
-abbrev pub FindsItems : List ℕ → List Item → std.Option ℕ → Type 0
-FindsItems row is r = MatchOption r (is ≡ []) (IsItems row is)
 
 -- whether an item uses a name
 abbrev pub uses : Item → Name → Bool

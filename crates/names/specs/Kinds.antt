@@ -1,14 +1,17 @@
 -- What names are in a function: their kinds by numbers, and the parameters of what is called, as names that stand in the row.
-use Rattle.std.specs.Prelude.{◌≡◌, ℕ, List, length, MatchOption}
+use Rattle.std.specs.Prelude.{◌≡◌, ℕ, List, MatchOption, Some, None}
 use Rattle.std.proofs.Math.Option.{Option, some, none}
 use Rattle.std.specs.declared.option.Option as std
 use Rattle.names.specs.declared.found.Spot.{Spot}
-use Rattle.names.specs.declared.found.Listed.{Listed}
+use Rattle.limits.specs.declared.entries.Entries.{Entries}
+use Rattle.limits.specs.declared.entries.Locals.{Locals}
+use Rattle.limits.specs.Entries.{Left}
+use Rattle.rows.specs.declared.kind.LocalKind.{LocalKind}
+use Rattle.rows.specs.Kinds.{local_kind}
 use Rattle.language.specs.Syntax.{pick, opt, Name, Kind, k_word, k_arr, Param, Fn, Item, i_word, i_arr, i_data, i_table, i_fn, i_use, Prog}
 use Rattle.language.specs.Meaning.{on_some, Top, resolve}
 use Rattle.language.specs.Checks.{kind_is, is_local, head_fn}
-use Rattle.rows.specs.Has.{Has}
-use Rattle.rows.specs.Trees.{Local, map_list, list_row, kind_no, of_param, local_row}
+use Rattle.rows.specs.Trees.{map_list, kind_no, of_param, local_row}
 use Rattle.names.specs.Finds.{IsTop}
 
 -- a kind's number, or 3 for none
@@ -23,18 +26,18 @@ kind_of_item (i_table x fs) = none
 kind_of_item (i_fn g) = none
 kind_of_item (i_use y xs) = none
 
--- the names ls stand where n says
-pub record IsListed (row : List ℕ) (ls : List Local) (n : Listed) : Type 0 where
-  pub here : Has row n.place (list_row local_row ls)
-  pub long : length ls ≡ n.count
+-- the kind as the code has it
+abbrev pub kind_found : Option Kind → std.Option LocalKind
+kind_found none = None
+kind_found (some k) = Some (local_kind k)
 
 -- the parameters that were found stand where n says
-pub record IsParams (row : List ℕ) (o : Option (List Param)) (n : Listed) : Type 0 where
+pub record IsParams (row : List ℕ) (o : Option (List Param)) (n : Entries Locals) : Type 0 where
   pub params : List Param
   pub is : o ≡ some params
-  pub there : IsListed row (map_list of_param params) n
+  pub there : Left local_row row n (map_list of_param params)
 
-abbrev pub FindsParams : List ℕ → Option (List Param) → std.Option Listed → Type 0
+abbrev pub FindsParams : List ℕ → Option (List Param) → std.Option (Entries Locals) → Type 0
 FindsParams row o r = MatchOption r (o ≡ none) (IsParams row o)
 
 abbrev pub item_params : Item → Option (List Param)

@@ -1,18 +1,29 @@
 // What a node of a body asks of the pile of kinds and gives to it. Nodes are told by their tags: 0 a number, 1 and 26 a variable, 7 a[i],
 // 8 len(a), 9 and 10 calls, 12 and 13 a word and an element set, 19 and 21 around a loop, 23 and 24 break and continue, 25 the end.
-ghost use Rattle.std.specs.Prelude.{◌≡◌, ℕ, List};
+ghost use Rattle.std.specs.Prelude.{◌≡◌, List};
 ghost use Rattle.std.proofs.Math.Option.{Option};
-ghost use Rattle.language.specs.Syntax.{Name, Fn, i_fn, Param, Prog};
+ghost use Rattle.language.specs.Syntax.{Name, Kind, Fn, i_fn, Param, Prog};
 ghost use Rattle.rows.specs.Has.{Has, named};
 ghost use Rattle.rows.specs.Nodes.{Node, node_row};
 ghost use Rattle.rows.specs.Trees.{item_row, prog_row};
 ghost use Rattle.names.specs.Fold.{ctx};
-ghost use Rattle.names.specs.Kinds.{FindsParams};
+ghost use Rattle.names.specs.Kinds.{kind_or, kind_found, FindsParams};
 ghost use Rattle.names.specs.Effects.{takes, gives, wants_kind, suits, stands, deeper, Does, Asks};
 
-use crate::found::{Effect, Listed};
 use crate::kinds::{kind_in, params_of, params_table};
-use rows::read::at;
+use limits::entries::{Entries, Locals};
+use rows::kind::LocalKind;
+use rows::read::{at, name_at};
+
+// What a node does to the pile of kinds, if it stands as it must: it asks for words and above them for these kinds of parameters, and gives a
+// kind by its number, or nothing (3).
+#[derive(Clone, Copy)]
+pub struct Effect<'a> {
+    pub ok: bool,
+    pub words: usize,
+    pub params: Entries<'a, Locals>,
+    pub gives: usize,
+}
 
 // How many words a node asks for, by its tag.
 fn takes_of(tag: usize) -> usize
@@ -105,12 +116,17 @@ pub fn depth_past(tag: usize, depth: usize) -> usize
 }
 
 // A call with so many arguments behind so many words.
-fn call_with(found: Option<Listed>, count: usize, words: usize) -> Effect
-    ensures { (row : List ℕ) (o : Option (List Param)) → FindsParams row o found → Asks row o count words result }
+fn call_with<'a>(
+    row: &'a [u32],
+    found: Option<Entries<'a, Locals>>,
+    count: usize,
+    words: usize,
+) -> Effect<'a>
+    ensures { (o : Option (List Param)) → FindsParams row.now o found.entry → Asks row.now o count words result }
 {
     match found {
         Some(params) => Effect {
-            ok: params.count == count,
+            ok: params.len() == count,
             words,
             params,
             gives: 0,
@@ -118,9 +134,21 @@ fn call_with(found: Option<Listed>, count: usize, words: usize) -> Effect
         None => Effect {
             ok: false,
             words,
-            params: Listed { place: 0, count: 0 },
+            params: Entries::new(row, 0, 0),
             gives: 0,
         },
+    }
+}
+
+// A kind's number, or 3 for none.
+fn number_of(kind: Option<LocalKind>) -> usize
+    ensures { (o : Option Kind) → kind ≡ kind_found o → result ≡ kind_or o }
+{
+    match kind {
+        Some(LocalKind::Word) => 0,
+        Some(LocalKind::Bytes) => 1,
+        Some(LocalKind::Words) => 2,
+        None => 3,
     }
 }
 
@@ -132,15 +160,25 @@ pub fn effect_of(row: &[u32], file: usize, item: usize, node: usize, depth: usiz
     let second = node.saturating_add(1);
     let third = node.saturating_add(2);
     if tag == 9 {
-        return call_with(params_of(row, file, item, third), at(row, second), 0);
+        return call_with(
+            row,
+            params_of(row, file, item, name_at(row, third)),
+            at(row, second),
+            0,
+        );
     }
     if tag == 10 {
-        return call_with(params_table(row, file, item, third), at(row, second), 1);
+        return call_with(
+            row,
+            params_table(row, file, item, name_at(row, third)),
+            at(row, second),
+            1,
+        );
     }
-    let params = Listed { place: 0, count: 0 };
+    let params = Entries::new(row, 0, 0);
     let words = takes_of(tag);
     if has_kind(tag) {
-        let kind = kind_in(row, file, item, second);
+        let kind = number_of(kind_in(row, file, item, name_at(row, second)));
         return Effect {
             ok: kind_suits(tag, kind),
             words,

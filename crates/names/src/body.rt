@@ -3,37 +3,16 @@ ghost use Rattle.std.specs.Prelude.{◌≡◌, ◌+◌, ◌<◌, ◌≤◌, fals
 ghost use Rattle.language.specs.Syntax.{Name, Kind, Fn, i_fn, Prog};
 ghost use Rattle.language.specs.Checks.{ok_b};
 ghost use Rattle.rows.specs.Has.{Has, named};
-ghost use Rattle.rows.specs.Nodes.{Node, node_row, nodes_row, nodes_b};
-ghost use Rattle.rows.specs.Trees.{Local, list_row, local_row, item_row, prog_row};
+ghost use Rattle.rows.specs.Nodes.{Node, node_row};
+ghost use Rattle.rows.specs.Trees.{item_row, prog_row};
 ghost use Rattle.names.specs.Fold.{ctx, step};
-ghost use Rattle.names.specs.Kinds.{IsListed};
 ghost use Rattle.names.specs.Pile.{Piled, Leaves};
 
 use crate::asking::{depth_past, effect_of};
-use crate::found::Listed;
-use crate::kinds::names_of;
 use crate::pile::follow;
-use rows::read::{at, past_name, past_node};
-
-// The place behind names.
-pub fn past_names(row: &[u32], names: Listed) -> usize
-    ensures { (ls : List Local) → IsListed row.now ls names → result ≡ names.place + length (list_row local_row ls) }
-{
-    let mut place = names.place;
-    let mut k = 0;
-    while k < names.count {
-        place = past_name(row, place.saturating_add(3));
-        k += 1;
-    }
-    place
-}
-
-// Where the body of a function stands.
-pub fn body_of(row: &[u32], item: usize) -> usize
-    ensures { (g : Fn) → Has row.now item (item_row (i_fn g)) → Has row.now result (nodes_row (nodes_b g.body)) }
-{
-    past_names(row, names_of(row, item))
-}
+use limits::head::body_of;
+use limits::nodes::Body;
+use rows::read::at;
 
 // What the node at a place leaves of the pile, in a function that is an item of a file.
 fn check_node(
@@ -58,22 +37,14 @@ pub fn check_body(row: &[u32], file: usize, item: usize, pile: &mut [u32]) -> bo
     requires { length row.now ≤ length pile.old }
     ensures { (p : Prog) (f : Name) (g : Fn) → row.now ≡ prog_row p → Has row.now file (named f) → Has row.now item (item_row (i_fn g)) → result ≡ ok_b p f g false g.body }
 {
-    let mut node = body_of(row, item);
     let mut len = 0;
     let mut depth = 0;
-    let mut n = 0;
-    while n < row.len() {
-        let tag = at(row, node);
-        if tag == 25 {
-            return true;
-        }
+    for node in Body::new(row, body_of(row, item)) {
         match check_node(row, file, item, node, depth, pile, len) {
             Some(left) => len = left,
             None => return false,
         }
-        depth = depth_past(tag, depth);
-        node = past_node(row, node);
-        n += 1;
+        depth = depth_past(at(row, node), depth);
     }
-    false
+    true
 }

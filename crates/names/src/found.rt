@@ -1,7 +1,13 @@
-// What look-ups find: an item at the top, or a function's own name.
+// What look-ups find: an item at the top, a function's own name, what a name stands for.
+ghost use Rattle.std.specs.Prelude.{◌≡◌};
+ghost use Rattle.language.specs.Syntax.{Item};
+ghost use Rattle.rows.specs.Kinds.{kind_of_item};
+ghost use Rattle.names.specs.Finds.{Passes};
+
+use rows::kind::{ItemKind, LocalKind};
 
 // Where an item stands in a program's row, the place of its file's name, and how many words, arrays, functions and tables stand before it.
-#[derive(Clone, Copy)]
+#[derive(Clone, Copy, Debug, PartialEq, Eq)]
 pub struct Spot {
     pub file: usize,
     pub item: usize,
@@ -11,33 +17,43 @@ pub struct Spot {
     pub tables: usize,
 }
 
-// A function's own name: its number among the words or among the arrays, and its kind's number.
-#[derive(Clone, Copy)]
+impl Spot {
+    // Behind an item of a kind.
+    pub fn past(self, kind: ItemKind) -> Spot
+        ensures { (i : Item) → kind ≡ kind_of_item i → Passes i self result }
+    {
+        match kind {
+            ItemKind::Word => Spot {
+                words: self.words.saturating_add(1),
+                ..self
+            },
+            ItemKind::Array | ItemKind::Data => Spot {
+                arrays: self.arrays.saturating_add(1),
+                ..self
+            },
+            ItemKind::Table => Spot {
+                tables: self.tables.saturating_add(1),
+                ..self
+            },
+            ItemKind::Function => Spot {
+                fns: self.fns.saturating_add(1),
+                ..self
+            },
+            ItemKind::Use => self,
+        }
+    }
+}
+
+// A function's own name: its number among the words or among the arrays, and its kind.
+#[derive(Clone, Copy, Debug, PartialEq, Eq)]
 pub struct Own {
     pub index: usize,
-    pub kind: usize,
-}
-
-// Names of a function that stand one after another: the place of the first, and how many.
-#[derive(Clone, Copy)]
-pub struct Listed {
-    pub place: usize,
-    pub count: usize,
-}
-
-// What a node does to the pile of kinds, if it stands as it must: it asks for words and above them for these kinds of parameters, and gives a
-// kind by its number, or nothing (3).
-#[derive(Clone, Copy)]
-pub struct Effect {
-    pub ok: bool,
-    pub words: usize,
-    pub params: Listed,
-    pub gives: usize,
+    pub kind: LocalKind,
 }
 
 // What a name stands for where a word or an array is wanted: the function's own with this number, or that of the top; an array of words (true)
 // or of bytes; else something other.
-#[derive(Clone, Copy)]
+#[derive(Clone, Copy, Debug, PartialEq, Eq)]
 pub enum Reference {
     OwnWord(usize),
     OwnArray(usize, bool),

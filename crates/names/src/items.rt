@@ -1,65 +1,51 @@
 // What the items of a program's files refer to: functions of tables, names that are used, bodies of functions.
-ghost use Rattle.std.specs.Prelude.{◌≡◌, ℕ, ◌<◌, ◌≤◌, false, List, ◌∷◌, ◌++◌, length};
+ghost use Rattle.std.specs.Prelude.{◌≡◌, ℕ, ◌≤◌, false, List, ◌∷◌, ◌++◌, length};
 ghost use Rattle.std.proofs.Math.Option.{Option};
-ghost use Rattle.language.specs.Syntax.{opt, Name, same, Param, Fn, Item, i_fn, Prog};
+ghost use Rattle.language.specs.Syntax.{opt, Name, Param, Fn, Item, i_fn, File, Prog};
 ghost use Rattle.language.specs.Meaning.{all_tops};
 ghost use Rattle.language.specs.Checks.{once, param_names, arr_names, head_fn, alike, all_there, no_more, has_main};
 ghost use Rattle.rows.specs.Has.{Has, named};
-ghost use Rattle.rows.specs.Trees.{Local, list_row, map_list, of_param, item_row, prog_row};
+ghost use Rattle.rows.specs.Trees.{Local, list_row, map_list, of_param, local_row, item_row, file_row, prog_row};
+ghost use Rattle.limits.specs.Entries.{Left};
 ghost use Rattle.names.specs.Fold.{fit};
-ghost use Rattle.names.specs.Kinds.{IsListed, FindsParams};
 ghost use Rattle.names.specs.Effects.{local_kinds};
+ghost use Rattle.names.specs.Kinds.{FindsParams};
 ghost use Rattle.names.specs.Resolved.{like, there, item_resolved, items_resolved, files_resolved, resolved};
 
 use crate::body::check_body;
-use crate::find::{find_top, past_items};
-use crate::found::Listed;
-use crate::kinds::{names_of, params_at, params_first, params_named};
-use crate::own::all_once;
-use rows::read::{at, past_item, past_name, same_at};
-
-// Whether a function was found that has no parameters.
-fn is_plain(found: Option<Listed>) -> bool
-    ensures { (row : List ℕ) (o : Option (List Param)) → FindsParams row o found → result ≡ opt o false no_more }
-{
-    match found {
-        Some(params) => params.count == 0,
-        None => false,
-    }
-}
+use crate::find::{MAIN, find_top};
+use crate::kinds::{params_at, params_first, params_named};
+use limits::entries::{Entries, LETTERS, Locals, Names, files_of, items_of};
+use limits::head::head_of;
+use rows::kind::ItemKind;
+use rows::read::{at, item_kind_at, name_at, past_name, same_at};
 
 // Whether all names of a function differ.
 pub fn names_differ(row: &[u32], item: usize) -> bool
     ensures { (g : Fn) → Has row.now item (item_row (i_fn g)) → result ≡ once (param_names g.params ++ (g.vars ++ arr_names g.arrs)) }
 {
-    let names = names_of(row, item);
-    all_once(row, names.place, names.count)
+    head_of(row, item).locals.differ(LETTERS)
 }
 
 // Whether names are as many as others, and of the same kinds.
-fn same_kinds(row: &[u32], a: Listed, b: Listed) -> bool
-    ensures { (ls ms : List Local) → IsListed row.now ls a → IsListed row.now ms b → result ≡ fit (local_kinds ls) (local_kinds ms) }
+fn same_kinds(row: &[u32], names: Entries<Locals>, others: Entries<Locals>) -> bool
+    ensures { (ls ms : List Local) → Left local_row row.now names.entry ls → Left local_row row.now others.entry ms → result ≡ fit (local_kinds ls) (local_kinds ms) }
 {
-    if a.count != b.count {
-        return false;
-    }
-    let mut first = a.place;
-    let mut second = b.place;
-    let mut k = 0;
-    while k < a.count {
-        if at(row, first) != at(row, second) {
+    let mut rest = others;
+    for name in names {
+        let Some(other) = rest.next() else {
+            return false;
+        };
+        if at(row, name) != at(row, other) {
             return false;
         }
-        first = past_name(row, first.saturating_add(3));
-        second = past_name(row, second.saturating_add(3));
-        k += 1;
     }
-    true
+    rest.len() == 0
 }
 
 // Whether a name is that of a function with these kinds of parameters.
-pub fn is_alike(row: &[u32], file: usize, params: Listed, name: usize) -> bool
-    ensures { (p : Prog) (f : Name) (qs : List Param) (x : Name) → row.now ≡ prog_row p → Has row.now file (named f) → IsListed row.now (map_list of_param qs) params → Has row.now name (named x) → result ≡ like p f qs x }
+pub fn is_alike(row: &[u32], file: usize, params: Entries<Locals>, name: &[u32]) -> bool
+    ensures { (p : Prog) (f : Name) (qs : List Param) → row.now ≡ prog_row p → Has row.now file (named f) → Left local_row row.now params.entry (map_list of_param qs) → result ≡ like p f qs name.now }
 {
     match params_named(row, file, name) {
         Some(others) => same_kinds(row, params, others),
@@ -68,18 +54,14 @@ pub fn is_alike(row: &[u32], file: usize, params: Listed, name: usize) -> bool
 }
 
 // Whether all names that stand behind their number are those of functions with these kinds of parameters.
-fn are_alike(row: &[u32], file: usize, params: Listed, place: usize) -> bool
-    ensures { (p : Prog) (f : Name) (qs : List Param) (xs : List Name) → row.now ≡ prog_row p → Has row.now file (named f) → IsListed row.now (map_list of_param qs) params → Has row.now place (length xs ∷ list_row named xs) → result ≡ alike p f qs xs }
+fn are_alike(row: &[u32], file: usize, params: Entries<Locals>, place: usize) -> bool
+    ensures { (p : Prog) (f : Name) (qs : List Param) (xs : List Name) → row.now ≡ prog_row p → Has row.now file (named f) → Left local_row row.now params.entry (map_list of_param qs) → Has row.now place (length xs ∷ list_row named xs) → result ≡ alike p f qs xs }
 {
-    let names = at(row, place);
-    let mut each = place.saturating_add(1);
-    let mut k = 0;
-    while k < names {
-        if !is_alike(row, file, params, each) {
+    let names: Entries<Names> = Entries::counted(row, place);
+    for name in names {
+        if !is_alike(row, file, params, name_at(row, name)) {
             return false;
         }
-        each = past_name(row, each);
-        k += 1;
     }
     true
 }
@@ -95,28 +77,21 @@ fn check_table(row: &[u32], file: usize, place: usize) -> bool
 }
 
 // Whether a name stands at the top of a file itself.
-pub fn is_there(row: &[u32], file: usize, name: usize) -> bool
-    ensures { (p : Prog) (y x : Name) → row.now ≡ prog_row p → Has row.now file (named y) → Has row.now name (named x) → result ≡ there (all_tops p 0 0) y x }
+pub fn is_there(row: &[u32], file: usize, name: &[u32]) -> bool
+    ensures { (p : Prog) (y : Name) → row.now ≡ prog_row p → Has row.now file (named y) → result ≡ there (all_tops p 0 0) y name.now }
 {
-    match find_top(row, file, row, name) {
-        Some(_) => true,
-        None => false,
-    }
+    find_top(row, file, name).is_some()
 }
 
 // Whether all names that stand behind their number stand at the top of a file itself.
 fn are_there(row: &[u32], file: usize, place: usize) -> bool
     ensures { (p : Prog) (y : Name) (xs : List Name) → row.now ≡ prog_row p → Has row.now file (named y) → Has row.now place (length xs ∷ list_row named xs) → result ≡ all_there (all_tops p 0 0) y xs }
 {
-    let names = at(row, place);
-    let mut each = place.saturating_add(1);
-    let mut k = 0;
-    while k < names {
-        if !is_there(row, file, each) {
+    let names: Entries<Names> = Entries::counted(row, place);
+    for name in names {
+        if !is_there(row, file, name_at(row, name)) {
             return false;
         }
-        each = past_name(row, each);
-        k += 1;
     }
     true
 }
@@ -126,35 +101,25 @@ pub fn check_item(row: &[u32], file: usize, item: usize, pile: &mut [u32]) -> bo
     requires { length row.now ≤ length pile.old }
     ensures { (p : Prog) (f : Name) (i : Item) → row.now ≡ prog_row p → Has row.now file (named f) → Has row.now item (item_row i) → result ≡ item_resolved p f i }
 {
-    let kind = at(row, item);
     let name = item.saturating_add(2);
     let rest = past_name(row, name);
-    if kind == 3 {
-        return check_table(row, file, rest);
+    match item_kind_at(row, item) {
+        ItemKind::Word | ItemKind::Array | ItemKind::Data => true,
+        ItemKind::Table => check_table(row, file, rest),
+        ItemKind::Function => check_body(row, file, item, pile),
+        ItemKind::Use => !same_at(row, name, file) & are_there(row, name, rest),
     }
-    if kind == 4 {
-        return check_body(row, file, item, pile);
-    }
-    if kind == 5 {
-        return !same_at(row, name, file) & are_there(row, name, rest);
-    }
-    true
 }
 
-// Whether what the items of a file refer to is as the checks ask; the items stand behind their number.
-fn check_items(row: &[u32], file: usize, place: usize, pile: &mut [u32]) -> bool
+// Whether what the items of a file refer to is as the checks ask.
+fn check_items(row: &[u32], file: usize, pile: &mut [u32]) -> bool
     requires { length row.now ≤ length pile.old }
-    ensures { (p : Prog) (f : Name) (is : List Item) → row.now ≡ prog_row p → Has row.now file (named f) → Has row.now place (length is ∷ list_row item_row is) → result ≡ items_resolved p f is }
+    ensures { (p : Prog) (f : File) → row.now ≡ prog_row p → Has row.now file (file_row f) → result ≡ items_resolved p f.name f.items }
 {
-    let items = at(row, place);
-    let mut item = place.saturating_add(1);
-    let mut n = 0;
-    while n < items {
+    for item in items_of(row, file) {
         if !check_item(row, file, item, pile) {
             return false;
         }
-        item = past_item(row, item);
-        n += 1;
     }
     true
 }
@@ -164,22 +129,23 @@ fn check_files(row: &[u32], pile: &mut [u32]) -> bool
     requires { length row.now ≤ length pile.old }
     ensures { (p : Prog) → row.now ≡ prog_row p → result ≡ files_resolved p p }
 {
-    let files = at(row, 0);
-    let mut place = 1;
-    let mut n = 0;
-    while n < files {
-        let head = past_name(row, place);
-        if !check_items(row, place, head, pile) {
+    for file in files_of(row) {
+        if !check_items(row, file, pile) {
             return false;
         }
-        place = past_items(row, head);
-        n += 1;
     }
     true
 }
 
-// The name main, behind its length.
-const MAIN: [u32; 5] = [4, 109, 97, 105, 110];
+// Whether a function was found that has no parameters.
+fn is_plain(found: Option<Entries<Locals>>) -> bool
+    ensures { (row : List ℕ) (o : Option (List Param)) → FindsParams row o found.entry → result ≡ opt o false no_more }
+{
+    match found {
+        Some(params) => params.len() == 0,
+        None => false,
+    }
+}
 
 // Whether main stands in the first file itself, and has no parameters.
 pub fn check_main(row: &[u32]) -> bool
@@ -188,8 +154,8 @@ pub fn check_main(row: &[u32]) -> bool
     if at(row, 0) == 0 {
         return false;
     }
-    match find_top(row, 1, &MAIN, 0) {
-        Some(s) => is_plain(params_at(row, s.item)),
+    match find_top(row, 1, &MAIN) {
+        Some(spot) => is_plain(params_at(row, spot.item)),
         None => false,
     }
 }

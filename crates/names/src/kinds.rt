@@ -1,160 +1,143 @@
 // What names are in a function: kinds of names, and the parameters of what is called.
-ghost use Rattle.std.specs.Prelude.{◌≡◌, ◌+◌, ◌<◌, List, ◌∷◌, ◌++◌, length};
+ghost use Rattle.std.specs.Prelude.{◌≡◌, List, ◌∷◌, length};
 ghost use Rattle.std.proofs.Math.Option.{some};
-ghost use Rattle.language.specs.Syntax.{Name, Fn, Item, i_fn, Prog};
+ghost use Rattle.language.specs.Syntax.{Name, k_arr, Fn, Item, i_fn, Prog};
 ghost use Rattle.language.specs.Meaning.{on_some};
 ghost use Rattle.language.specs.Checks.{kind_of, fn_named, head_fn, params_of, params_of_table};
 ghost use Rattle.rows.specs.Has.{Has, named};
-ghost use Rattle.rows.specs.Nodes.{body_row};
-ghost use Rattle.rows.specs.Trees.{list_row, map_list, of_param, locals, local_row, item_row, prog_row};
+ghost use Rattle.rows.specs.Kinds.{local_kind};
+ghost use Rattle.rows.specs.Trees.{list_row, item_row, prog_row};
 ghost use Rattle.steps.specs.Generate.{slots_of};
 ghost use Rattle.names.specs.Finds.{FindsOwn};
-ghost use Rattle.names.specs.Kinds.{kind_or, kind_of_item, IsListed, item_params, item_table, kind_top, FindsParams, called, FindsCalled};
+ghost use Rattle.names.specs.Kinds.{kind_found, kind_of_item, item_params, item_table, kind_top, FindsParams, called, FindsCalled};
 
 use crate::find::resolve;
-use crate::found::{Listed, Own, Spot};
+use crate::found::{Own, Spot};
 use crate::own::find_own;
-use rows::read::{at, past_name};
-
-// The names of the function that an item is; its body stands behind them.
-pub fn names_of(row: &[u32], item: usize) -> Listed
-    ensures names { (g : Fn) → Has row.now item (item_row (i_fn g)) → IsListed row.now (locals g) result }
-    ensures body { (g : Fn) → Has row.now item (item_row (i_fn g)) → Has row.now result.place (list_row local_row (locals g) ++ body_row g.body) }
-{
-    let head = past_name(row, item.saturating_add(2));
-    let params = at(row, head);
-    let vars = at(row, head.saturating_add(1));
-    let arrays = at(row, head.saturating_add(2));
-    let place = head.saturating_add(3);
-    Listed {
-        place,
-        count: params + vars + arrays,
-    }
-}
-
-// Its parameters.
-pub fn params_in(row: &[u32], item: usize) -> Listed
-    ensures { (g : Fn) → Has row.now item (item_row (i_fn g)) → IsListed row.now (map_list of_param g.params) result }
-{
-    let head = past_name(row, item.saturating_add(2));
-    let place = head.saturating_add(3);
-    Listed {
-        place,
-        count: at(row, head),
-    }
-}
+use limits::entries::{Entries, Locals, Names};
+use limits::head::head_of;
+use rows::kind::{ItemKind, LocalKind};
+use rows::read::{at, item_kind_at, name_at, past_name};
 
 // A name among those of the function that an item is, as the generator numbers them.
-pub fn own_in(row: &[u32], item: usize, name: usize) -> Option<Own>
-    ensures { (g : Fn) (x : Name) → Has row.now item (item_row (i_fn g)) → Has row.now name (named x) → FindsOwn (slots_of g) x result }
+pub fn own_in(row: &[u32], item: usize, name: &[u32]) -> Option<Own>
+    ensures { (g : Fn) → Has row.now item (item_row (i_fn g)) → FindsOwn (slots_of g) name.now result }
 {
-    let names = names_of(row, item);
-    find_own(row, names.place, names.count, name)
+    find_own(row, head_of(row, item).locals, name)
 }
 
-// The number of an item's kind; 3 if it has none.
-pub fn item_kind(row: &[u32], item: usize) -> usize
-    ensures { (i : Item) → Has row.now item (item_row i) → result ≡ kind_or (kind_of_item i) }
+// The kind of an array.
+fn array_kind(wide: bool) -> LocalKind
+    ensures { result ≡ local_kind (k_arr wide) }
 {
-    let kind = at(row, item);
-    if kind == 0 {
-        return 0;
-    }
-    if kind < 3 {
-        return 1 + at(row, past_name(row, item.saturating_add(2)));
-    }
-    3
-}
-
-// The number of the kind at the top of a file of what a name means; 3 if it has none.
-fn top_kind(row: &[u32], file: usize, name: usize) -> usize
-    ensures { (p : Prog) (f x : Name) → row.now ≡ prog_row p → Has row.now file (named f) → Has row.now name (named x) → result ≡ kind_or (kind_top p f x) }
-{
-    match resolve(row, file, name) {
-        Some(s) => item_kind(row, s.item),
-        None => 3,
+    if wide {
+        LocalKind::Words
+    } else {
+        LocalKind::Bytes
     }
 }
 
-// The number of the kind of a name in a function; 3 if it has none.
-pub fn kind_in(row: &[u32], file: usize, item: usize, name: usize) -> usize
-    ensures { (p : Prog) (f : Name) (g : Fn) (x : Name) → row.now ≡ prog_row p → Has row.now file (named f) → Has row.now item (item_row (i_fn g)) → Has row.now name (named x) → result ≡ kind_or (kind_of p f g x) }
+// The kind of an item, if it is a word or an array.
+pub fn item_kind(row: &[u32], item: usize) -> Option<LocalKind>
+    ensures { (i : Item) → Has row.now item (item_row i) → result ≡ kind_found (kind_of_item i) }
+{
+    match item_kind_at(row, item) {
+        ItemKind::Word => Some(LocalKind::Word),
+        ItemKind::Array | ItemKind::Data => {
+            let width = at(row, past_name(row, item.saturating_add(2)));
+            Some(array_kind(width == 1))
+        }
+        ItemKind::Table | ItemKind::Function | ItemKind::Use => None,
+    }
+}
+
+// The kind at the top of a file of what a name means.
+fn top_kind(row: &[u32], file: usize, name: &[u32]) -> Option<LocalKind>
+    ensures { (p : Prog) (f : Name) → row.now ≡ prog_row p → Has row.now file (named f) → result ≡ kind_found (kind_top p f name.now) }
+{
+    let spot = resolve(row, file, name)?;
+    item_kind(row, spot.item)
+}
+
+// The kind of a name in a function.
+pub fn kind_in(row: &[u32], file: usize, item: usize, name: &[u32]) -> Option<LocalKind>
+    ensures { (p : Prog) (f : Name) (g : Fn) → row.now ≡ prog_row p → Has row.now file (named f) → Has row.now item (item_row (i_fn g)) → result ≡ kind_found (kind_of p f g name.now) }
 {
     match own_in(row, item, name) {
-        Some(own) => own.kind,
+        Some(own) => Some(own.kind),
         None => top_kind(row, file, name),
     }
 }
 
-// What a name means that is called in a function.
-fn find_called(row: &[u32], file: usize, item: usize, name: usize) -> Option<Spot>
-    ensures { (p : Prog) (f : Name) (g : Fn) (x : Name) → row.now ≡ prog_row p → Has row.now file (named f) → Has row.now item (item_row (i_fn g)) → Has row.now name (named x) → FindsCalled row.now (called p f g x) result }
+// What a name means that is called in a function: the function's own names hide it.
+fn find_called(row: &[u32], file: usize, item: usize, name: &[u32]) -> Option<Spot>
+    ensures { (p : Prog) (f : Name) (g : Fn) → row.now ≡ prog_row p → Has row.now file (named f) → Has row.now item (item_row (i_fn g)) → FindsCalled row.now (called p f g name.now) result }
 {
-    match own_in(row, item, name) {
-        Some(_) => None,
-        None => resolve(row, file, name),
+    if own_in(row, item, name).is_some() {
+        return None;
     }
+    resolve(row, file, name)
 }
 
 // The parameters of an item, if it is a function.
-pub fn params_at(row: &[u32], item: usize) -> Option<Listed>
+pub fn params_at(row: &[u32], item: usize) -> Option<Entries<Locals>>
     ensures { (i : Item) → Has row.now item (item_row i) → FindsParams row.now (item_params i) result }
 {
-    if at(row, item) == 4 {
-        Some(params_in(row, item))
-    } else {
-        None
+    match item_kind_at(row, item) {
+        ItemKind::Function => Some(head_of(row, item).params),
+        _ => None,
     }
 }
 
 // The parameters of a function that is named at the top of a file.
-pub fn params_named(row: &[u32], file: usize, name: usize) -> Option<Listed>
-    ensures { (p : Prog) (f x : Name) → row.now ≡ prog_row p → Has row.now file (named f) → Has row.now name (named x) → FindsParams row.now (on_some (fn_named p f x) (λ h. some h.params)) result }
+pub fn params_named<'a>(row: &'a [u32], file: usize, name: &[u32]) -> Option<Entries<'a, Locals>>
+    ensures { (p : Prog) (f : Name) → row.now ≡ prog_row p → Has row.now file (named f) → FindsParams row.now (on_some (fn_named p f name.now) (λ h. some h.params)) result }
 {
-    match resolve(row, file, name) {
-        Some(s) => params_at(row, s.item),
-        None => None,
-    }
+    let spot = resolve(row, file, name)?;
+    params_at(row, spot.item)
 }
 
 // The parameters of the first of the functions that are named behind their number.
-pub fn params_first(row: &[u32], file: usize, place: usize) -> Option<Listed>
+pub fn params_first(row: &[u32], file: usize, place: usize) -> Option<Entries<Locals>>
     ensures { (p : Prog) (f : Name) (fs : List Name) → row.now ≡ prog_row p → Has row.now file (named f) → Has row.now place (length fs ∷ list_row named fs) → FindsParams row.now (head_fn p f fs) result }
 {
-    if at(row, place) == 0 {
-        None
-    } else {
-        params_named(row, file, place.saturating_add(1))
-    }
+    let mut names: Entries<Names> = Entries::counted(row, place);
+    let first = names.next()?;
+    params_named(row, file, name_at(row, first))
 }
 
 // The parameters of what a function calls.
-pub fn params_of(row: &[u32], file: usize, item: usize, name: usize) -> Option<Listed>
-    ensures { (p : Prog) (f : Name) (g : Fn) (x : Name) → row.now ≡ prog_row p → Has row.now file (named f) → Has row.now item (item_row (i_fn g)) → Has row.now name (named x) → FindsParams row.now (params_of p f g x) result }
+pub fn params_of<'a>(
+    row: &'a [u32],
+    file: usize,
+    item: usize,
+    name: &[u32],
+) -> Option<Entries<'a, Locals>>
+    ensures { (p : Prog) (f : Name) (g : Fn) → row.now ≡ prog_row p → Has row.now file (named f) → Has row.now item (item_row (i_fn g)) → FindsParams row.now (params_of p f g name.now) result }
 {
-    match find_called(row, file, item, name) {
-        Some(s) => params_at(row, s.item),
-        None => None,
-    }
+    let spot = find_called(row, file, item, name)?;
+    params_at(row, spot.item)
 }
 
 // The parameters of the functions of an item, if it is a table.
-fn table_at(row: &[u32], file: usize, item: usize) -> Option<Listed>
+fn table_at(row: &[u32], file: usize, item: usize) -> Option<Entries<Locals>>
     ensures { (p : Prog) (f : Name) (i : Item) → row.now ≡ prog_row p → Has row.now file (named f) → Has row.now item (item_row i) → FindsParams row.now (item_table p f i) result }
 {
-    if at(row, item) == 3 {
-        params_first(row, file, past_name(row, item.saturating_add(2)))
-    } else {
-        None
+    match item_kind_at(row, item) {
+        ItemKind::Table => params_first(row, file, past_name(row, item.saturating_add(2))),
+        _ => None,
     }
 }
 
 // The parameters of the functions of a table that a function calls.
-pub fn params_table(row: &[u32], file: usize, item: usize, name: usize) -> Option<Listed>
-    ensures { (p : Prog) (f : Name) (g : Fn) (x : Name) → row.now ≡ prog_row p → Has row.now file (named f) → Has row.now item (item_row (i_fn g)) → Has row.now name (named x) → FindsParams row.now (params_of_table p f g x) result }
+pub fn params_table<'a>(
+    row: &'a [u32],
+    file: usize,
+    item: usize,
+    name: &[u32],
+) -> Option<Entries<'a, Locals>>
+    ensures { (p : Prog) (f : Name) (g : Fn) → row.now ≡ prog_row p → Has row.now file (named f) → Has row.now item (item_row (i_fn g)) → FindsParams row.now (params_of_table p f g name.now) result }
 {
-    match find_called(row, file, item, name) {
-        Some(s) => table_at(row, s.file, s.item),
-        None => None,
-    }
+    let spot = find_called(row, file, item, name)?;
+    table_at(row, spot.file, spot.item)
 }

@@ -12,5 +12,5 @@ returns c = λ g h.
     let d = c.head_of.ensures g h in
     let b = c.end.ensures c.args.row.now (locals g) d.locals in
     let l = c.stage_of_locals.ensures (locals g) d.locals in
-    let t = c.stage_of_nodes.ensures (nodes_b g.body) (c.new-nodes.ensures (nodes_b g.body) (body_at g d.body b) (closed_body g.body)) in
+    let t = c.stage_of_nodes.ensures (nodes_b g.body) (c.new-nodes.ensures.left (nodes_b g.body) (body_at g d.body b) (closed_body g.body)) in
     omega (arith, stage-locals g, stage_body g.body, c.max.ensures)

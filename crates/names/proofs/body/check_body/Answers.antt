@@ -1,29 +1,47 @@
-use Rattle.std.proofs.Common.{arith}
-use Rattle.names.proofs.BodyNodes.{checking_none, checking_more, checking_last, checking_refused, checking_out, deeper-le}
+-- `check_body`: node by node.
+use Rattle.std.proofs.Common.{sym, ap, ◌∙◌, subst, arith}
+use Rattle.rows.specs.Nodes.{nodes_b}
+use Rattle.limits.specs.declared.nodes.Body.{Body}
+use Rattle.limits.specs.Body.{NodesLeft}
+use Rattle.limits.proofs.BodyLaws.{closed_body}
+use Rattle.limits.proofs.EntryLaws.{rest_by, rest_next, rest_none}
+use Rattle.names.proofs.NodeEffects.{tag_is}
+use Rattle.names.proofs.BodyNodes.{checking_none, checking_more, checking_last, checking_refused, deeper-le}
 use Rattle.names.proofs.body.check_body.Goals as goal
 
-pub loop-n-init : goal.loop-n-init
-loop-n-init c = (c.requires, omega arith, omega arith, λ p f g e hf hi. checking_none p f g (c.body_of-node.ensures g hi))
+pub loop-node-init : goal.loop-node-init
+loop-node-init c = (
+  c.requires,
+  omega (arith, ap (λ (s : Body). s.left) c.into_iter-node-iterator.ensures.into_iter_gives, c.new-node-items.ensures.most),
+  omega (arith, ap (λ (s : Body). s.left) c.into_iter-node-iterator.ensures.into_iter_gives, c.new-node-items.ensures.most),
+  λ p f g e hf hi.
+      record { ts = nodes_b g.body; left = subst (λ s. NodesLeft c.args.row.now s (nodes_b g.body)) (sym c.into_iter-node-iterator.ensures.into_iter_gives) (c.new-node-items.ensures.left (nodes_b g.body) (c.body_of.ensures g hi) (closed_body g.body)); holds = checking_none p f g },
+)
 
 pub check_node-requires : goal.check_node-requires
-check_node-requires c = let i = c.loop-n.invariant in let l = i.0 in let m = i.1 in omega arith
+check_node-requires c = let i = c.loop-node.invariant in let l = i.0 in let m = i.1 in let n = (c.in-Some.ensures.goes.on tt).2 in omega arith
 
-pub loop-n-preserved : goal.loop-n-preserved
-loop-n-preserved c =
-    let i = c.loop-n.invariant in
-    let grows = c.in-Some.ensures.grows in
-    let deep = deeper-le c.at-tag.result c.loop-n.depth in
+pub loop-node-preserved : goal.loop-node-preserved
+loop-node-preserved c =
+    let i = c.loop-node.invariant in
+    let grows = c.in-Some-check_node.ensures.grows in
+    let deep = deeper-le c.at.result c.loop-node.depth in
+    let n = (c.in-Some.ensures.goes.on tt).2 in
     let i0 = i.0 in
     let i1 = i.1 in
     let i2 = i.2 in
-    let kept = c.check_node.auto.pile in
-    (omega arith, omega arith, omega arith, λ p f g e hf hi. checking_more c.at-tag.ensures.is (i.3 p f g e hf hi) (omega arith) c.if-tag-eq25.false (c.in-Some.ensures.leaves p f g e hf hi) c.depth_past-depth.ensures c.past_node-node.ensures)
+    let kept = c.check_node.auto.pile in (
+      omega arith,
+      omega arith,
+      omega (arith, c.depth_past-depth.ensures),
+      λ p f g e hf hi.
+          rest_next NodesLeft (i.3 p f g e hf hi) c.in-Some.ensures.steps
+          (λ t ts h r v. checking_more t ts v (omega arith) (c.at.ensures.is ∙ tag_is t h) (λ st q. c.in-Some-check_node.ensures.leaves p f g e hf hi t st h q) c.depth_past-depth.ensures),
+    )
 
-pub returns-then-tag-eq25 : goal.returns-then-tag-eq25
-returns-then-tag-eq25 c = λ p f g e hf hi. checking_last c.at-tag.ensures.is (c.loop-n.invariant.3 p f g e hf hi) c.if-tag-eq25.true
-
-pub returns-in-None : goal.returns-in-None
-returns-in-None c = λ p f g e hf hi. checking_refused c.at-tag.ensures.is (c.loop-n.invariant.3 p f g e hf hi) (c.in-None.ensures.leaves p f g e hf hi)
+pub returns-in-None-check_node : goal.returns-in-None-check_node
+returns-in-None-check_node c = λ p f g e hf hi.
+    rest_by NodesLeft (c.loop-node.invariant.3 p f g e hf hi) c.in-Some.ensures.steps (λ t ts h r v. checking_refused t ts v (λ st q. c.in-None-check_node.ensures.leaves p f g e hf hi t st h q))
 
 pub returns : goal.returns
-returns c = λ p f g e hf hi. absurd (checking_out (c.loop-n.invariant.3 p f g e hf hi) c.loop-n-test.false)
+returns c = λ p f g e hf hi. checking_last (rest_none NodesLeft (c.loop-node.invariant.3 p f g e hf hi) c.in-None.ensures.steps)

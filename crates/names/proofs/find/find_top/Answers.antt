@@ -1,21 +1,49 @@
-use Rattle.std.proofs.Common.{◌∙◌, arith}
-use Rattle.names.proofs.Searching.{outer_none, outer_all, outer_inner, inner_outer, inner_more, inner_found}
+-- `find_top`: file by file, item by item.
+use Rattle.std.proofs.Common.{Bool, ◌&&◌, eqb, sym, ap, ◌∙◌, subst, ap₂, arith}
+use Rattle.language.specs.Syntax.{same}
+use Rattle.rows.specs.Trees.{item_no, name_of, item_row, file_row}
+use Rattle.limits.specs.Entries.{Left}
+use Rattle.limits.proofs.EntryLaws.{rest_by, rest_next, rest_none}
+use Rattle.limits.proofs.Places.{file-name}
+use Rattle.names.proofs.Searching.{files_first, files_last, into_file, behind_file, past_item, this_top, tested}
 use Rattle.names.proofs.find.find_top.Goals as goal
 
-pub files-init : goal.files-init
-files-init c = (omega arith, λ p f x e hf hx. outer_none e)
+pub loop-file-init : goal.loop-file-init
+loop-file-init c = λ p F e hf.
+    record { ts = p; left = subst (λ s. Left file_row c.args.row.now s p) (sym c.into_iter-file-iterator.ensures.into_iter_gives) (c.files_of-file-items.ensures p e); holds = files_first e }
 
-pub files-preserved : goal.files-preserved
-files-preserved c = (omega arith, λ p f x e hf hx. inner_outer (omega arith) (c.loop-k.invariant.2 p f x e hf hx))
+pub loop-item-init : goal.loop-item-init
+loop-item-init c = λ p F e hf.
+    rest_by (Left file_row) (c.loop-file.invariant p F e hf) c.in-Some.ensures.steps
+    (λ f fs h r v. (
+      f.name,
+      fs,
+      file-name f h,
+      c.is_named-here.ensures f.name (file-name f h) ∙ ap (same f.name) (c.name_at-sought.ensures F hf),
+      r,
+      record { ts = f.items; left = subst (λ s. Left item_row c.args.row.now s f.items) (sym c.into_iter-item-iterator.ensures.into_iter_gives) (c.items_of-item-items.ensures.left f h); holds = into_file f fs v },
+    ))
 
-pub loop-k-init : goal.loop-k-init
-loop-k-init c = (omega arith, omega arith, λ p f x e hf hx. outer_inner (omega arith) e (omega arith) hf c.same_at-here.ensures c.past_name-head.ensures c.at-items.ensures.is c.saturating_add.ensures (c.files.invariant.1 p f x e hf hx))
+pub loop-file-preserved : goal.loop-file-preserved
+loop-file-preserved c = λ p F e hf. let v = c.loop-item.invariant p F e hf in record { ts = v.1; left = v.4; holds = behind_file (rest_none (Left item_row) v.5 c.in-None-item.ensures.steps) }
 
-pub loop-k-preserved : goal.loop-k-preserved
-loop-k-preserved c = (omega arith, omega arith, λ p f x e hf hx. inner_more (omega arith) hx c.if-declares.ensures c.pass-s.ensures (c.loop-k.invariant.2 p f x e hf hx))
+pub returns-then-here-declares : goal.returns-then-here-declares
+returns-then-here-declares c = λ p F e hf.
+    let v = c.loop-item.invariant p F e hf in
+    rest_by (Left item_row) v.5 c.in-Some-item.ensures.steps
+    (λ i is h r q. this_top (omega arith) i is v.1 q v.2 h (tested (same v.0 F) (same (name_of i) c.args.name.now) (eqb (item_no i) 5) (sym c.if-here-declares.true ∙ ap₂ (λ (a b : Bool). a && b) v.3 (c.declares.ensures i h))))
 
-pub returns-then-n-files : goal.returns-then-n-files
-returns-then-n-files c = λ p f x e hf hx. outer_all e (c.if-n-files.true ∙ c.at-files.ensures.is) (c.files.invariant.1 p f x e hf hx)
+pub loop-item-preserved : goal.loop-item-preserved
+loop-item-preserved c = λ p F e hf.
+    let v = c.loop-item.invariant p F e hf in (
+      v.0,
+      v.1,
+      v.2,
+      v.3,
+      v.4,
+      rest_next (Left item_row) v.5 c.in-Some-item.ensures.steps
+          (λ i is h r q. past_item (omega arith) i is v.1 q (c.past-spot.ensures i (c.item_kind_at.ensures i h)) (tested (same v.0 F) (same (name_of i) c.args.name.now) (eqb (item_no i) 5) (sym c.if-here-declares.false ∙ ap₂ (λ (a b : Bool). a && b) v.3 (c.declares.ensures i h)))),
+    )
 
-pub returns-then-declares : goal.returns-then-declares
-returns-then-declares c = λ p f x e hf hx. inner_found (omega arith) hx c.if-declares.ensures (c.loop-k.invariant.2 p f x e hf hx)
+pub returns : goal.returns
+returns c = λ p F e hf. files_last (rest_none (Left file_row) (c.loop-file.invariant p F e hf) c.in-None.ensures.steps)

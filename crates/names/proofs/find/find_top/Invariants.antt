@@ -1,18 +1,16 @@
-use Rattle.std.proofs.Common.{◌≡◌, ◌-◌, ◌<◌, ◌≤◌}
-use Rattle.language.specs.Syntax.{Name, Prog}
+-- `find_top`: the loops' invariants, by what is left.
+use Rattle.std.proofs.Common.{◌≡◌}
+use Rattle.language.specs.Syntax.{Name, same, Prog}
 use Rattle.rows.specs.Has.{Has, named}
-use Rattle.rows.specs.Trees.{prog_row}
-use Rattle.names.proofs.Searching.{Outer, Inner}
+use Rattle.rows.specs.Trees.{item_row, file_row, prog_row}
+use Rattle.limits.specs.Entries.{Left}
+use Rattle.limits.proofs.EntryLaws.{Rest}
+use Rattle.names.proofs.Searching.{Files, Items}
 use Rattle.names.proofs.find.find_top.Given as goal
 
-abbrev pub invariant-files : goal.invariant-files
-invariant-files l = (l.n ≤ l.files) × ((p : Prog) (f x : Name) → l.row ≡ prog_row p → Has l.row l.file (named f) → Has l.words l.name (named x) → Outer l.row p f x l.s l.n)
+abbrev pub invariant-loop-file : goal.invariant-loop-file
+invariant-loop-file l = (p : Prog) (F : Name) → l.row ≡ prog_row p → Has l.row l.fn.file (named F) → Rest (Left file_row) l.row (Files l.row p F l.name l.spot) l.file-iterator
 
-abbrev pub decreases-files : goal.decreases-files
-decreases-files l = l.files - l.n
-
-abbrev pub invariant-loop-k : goal.invariant-loop-k
-invariant-loop-k l = (l.n < l.files) × (l.k ≤ l.items) × ((p : Prog) (f x : Name) → l.row ≡ prog_row p → Has l.row l.file (named f) → Has l.words l.name (named x) → Inner l.row p f x l.s l.n l.items l.k l.here)
-
-abbrev pub decreases-loop-k : goal.decreases-loop-k
-decreases-loop-k l = l.items - l.k
+abbrev pub invariant-loop-item : goal.invariant-loop-item
+invariant-loop-item l =
+    (p : Prog) (F : Name) → l.row ≡ prog_row p → Has l.row l.fn.file (named F) → (f : Name) × (fs : Prog) × Has l.row l.file (named f) × (l.here ≡ same f F) × Left file_row l.row l.file-iterator fs × Rest (Left item_row) l.row (Items l.row p F l.name l.spot f fs) l.item-iterator

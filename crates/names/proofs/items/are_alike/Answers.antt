@@ -1,17 +1,24 @@
-use Rattle.std.proofs.Common.{◌∙◌, arith}
-use Rattle.rows.proofs.Having.{has_word}
+-- `are_alike`: name by name.
+use Rattle.std.proofs.Common.{Bool, ◌&&◌, sym, refl, ap, ◌∙◌, subst}
+use Rattle.language.specs.Checks.{alike}
+use Rattle.rows.specs.Has.{named}
+use Rattle.limits.specs.Entries.{Left}
+use Rattle.limits.proofs.EntryLaws.{rest_by, rest_next, rest_none}
 use Rattle.names.specs.Resolved.{like}
-use Rattle.names.proofs.Referring.{every-none, every_more, every_stop, every-all, alike-every}
 use Rattle.names.proofs.items.are_alike.Goals as goal
 
-pub loop-k-init : goal.loop-k-init
-loop-k-init c = λ p f qs xs e hf l h. every-none (like p f qs) xs (omega arith) c.saturating_add-each.ensures h
+pub loop-name-init : goal.loop-name-init
+loop-name-init c = λ p f qs xs e hf l h. record { ts = xs; left = subst (λ s. Left named c.args.row.now s xs) (sym c.into_iter-name-iterator.ensures.into_iter_gives) (c.counted-names.ensures.left xs h); holds = refl }
 
-pub loop-k-preserved : goal.loop-k-preserved
-loop-k-preserved c = λ p f qs xs e hf l h. every_more (omega (arith, has_word h)) (λ y hy. c.if-not-is_alike.ensures p f qs y e hf l hy) c.past_name-each.ensures (c.loop-k.invariant p f qs xs e hf l h)
+pub loop-name-preserved : goal.loop-name-preserved
+loop-name-preserved c = λ p f qs xs e hf l h.
+    rest_next (Left named) (c.loop-name.invariant p f qs xs e hf l h) c.in-Some.ensures.steps
+    (λ x ys hx r q. q ∙ ap (λ (b : Bool). b && alike p f qs ys) (sym (c.if-not-is_alike.ensures p f qs e hf l ∙ ap (like p f qs) (c.name_at.ensures x hx))))
 
 pub returns-then-not-is_alike : goal.returns-then-not-is_alike
-returns-then-not-is_alike c = λ p f qs xs e hf l h. every_stop (omega (arith, has_word h)) (λ y hy. c.if-not-is_alike.ensures p f qs y e hf l hy) (c.loop-k.invariant p f qs xs e hf l h) ∙ alike-every p f qs xs
+returns-then-not-is_alike c = λ p f qs xs e hf l h.
+    rest_by (Left named) (c.loop-name.invariant p f qs xs e hf l h) c.in-Some.ensures.steps
+    (λ x ys hx r q. sym (q ∙ ap (λ (b : Bool). b && alike p f qs ys) (sym (c.if-not-is_alike.ensures p f qs e hf l ∙ ap (like p f qs) (c.name_at.ensures x hx)))))
 
 pub returns : goal.returns
-returns c = λ p f qs xs e hf l h. every-all (omega (arith, has_word h)) (c.loop-k.invariant p f qs xs e hf l h) ∙ alike-every p f qs xs
+returns c = λ p f qs xs e hf l h. sym (rest_none (Left named) (c.loop-name.invariant p f qs xs e hf l h) c.in-None.ensures.steps)

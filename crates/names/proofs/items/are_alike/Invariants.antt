@@ -1,14 +1,14 @@
-use Rattle.std.proofs.Common.{◌≡◌, ◌-◌, List, ◌∷◌, length}
+-- `are_alike`: the loop's invariant, by what is left.
+use Rattle.std.proofs.Common.{◌≡◌, List, ◌∷◌, length}
 use Rattle.language.specs.Syntax.{Name, Param, Prog}
+use Rattle.language.specs.Checks.{alike}
 use Rattle.rows.specs.Has.{Has, named}
-use Rattle.rows.specs.Trees.{list_row, map_list, of_param, prog_row}
-use Rattle.names.specs.Kinds.{IsListed}
-use Rattle.names.specs.Resolved.{like}
-use Rattle.names.proofs.Referring.{Every}
+use Rattle.rows.specs.Trees.{list_row, map_list, of_param, local_row, prog_row}
+use Rattle.limits.specs.Entries.{Left}
+use Rattle.limits.proofs.EntryLaws.{Rest}
 use Rattle.names.proofs.items.are_alike.Given as goal
 
-abbrev pub invariant-loop-k : goal.invariant-loop-k
-invariant-loop-k l = (p : Prog) (f : Name) (qs : List Param) (xs : List Name) → l.row ≡ prog_row p → Has l.row l.file (named f) → IsListed l.row (map_list of_param qs) l.params → Has l.row l.place (length xs ∷ list_row named xs) → Every l.row (like p f qs) xs l.each l.k
-
-abbrev pub decreases-loop-k : goal.decreases-loop-k
-decreases-loop-k l = l.names - l.k
+abbrev pub invariant-loop-name : goal.invariant-loop-name
+invariant-loop-name l =
+    (p : Prog) (f : Name) (qs : List Param) (xs : List Name) → l.row ≡ prog_row p → Has l.row l.file (named f) → Left local_row l.row l.params (map_list of_param qs) → Has l.row l.place (length xs ∷ list_row named xs)
+    → Rest (Left named) l.row (λ ys. alike p f qs xs ≡ alike p f qs ys) l.name-iterator

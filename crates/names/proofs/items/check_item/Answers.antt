@@ -1,15 +1,21 @@
-use Rattle.std.proofs.Common.{Bool, not, ◌&&◌, ap₂, arith}
-use Rattle.names.proofs.Referring.{refers_table, refers_fn, refers_use, refers_none}
+-- `check_item`: what an item refers to, by its kind.
+use Rattle.std.proofs.Common.{◌≡◌, Bool, not, ◌&&◌, ap₂, arith}
+use Rattle.language.specs.Syntax.{i_table, i_use}
+use Rattle.rows.specs.declared.kind.ItemKind.TheVariants.{Table, Function, Use}
+use Rattle.limits.proofs.Places.{by_kind, item_name, item_tail}
+use Rattle.names.specs.Resolved.{item_resolved}
 use Rattle.names.proofs.items.check_item.Goals as goal
 
-pub returns-then-kind-eq3 : goal.returns-then-kind-eq3
-returns-then-kind-eq3 c = λ p f i e hf h. refers_table p f (omega arith) c.at-kind.ensures.is c.saturating_add-name.ensures c.past_name-rest.ensures c.if-kind-eq3.true (λ xs hx. c.check_table.ensures p f xs e hf hx) i h
+pub returns-in-Table : goal.returns-in-Table
+returns-in-Table c = λ p f i e hf h.
+    by_kind Table (λ i. c.check_table.result ≡ item_resolved p f i) c.item_kind_at.ensures c.in-Table.is (λ y xs k. c.check_table.ensures p f xs e hf (item_tail (omega arith) c.saturating_add-name.ensures c.past_name-rest.ensures (i_table y xs) k)) i h
 
-pub returns-then-kind-eq4 : goal.returns-then-kind-eq4
-returns-then-kind-eq4 c = λ p f i e hf h. refers_fn p f (omega arith) c.at-kind.ensures.is c.saturating_add-name.ensures c.past_name-rest.ensures c.if-kind-eq4.true (λ g hg. c.check_body.ensures p f g e hf hg) i h
+pub returns-in-Function : goal.returns-in-Function
+returns-in-Function c = λ p f i e hf h. by_kind Function (λ i. c.check_body.result ≡ item_resolved p f i) c.item_kind_at.ensures c.in-Function.is (λ g k. c.check_body.ensures p f g e hf k) i h
 
-pub returns-then-kind-eq5 : goal.returns-then-kind-eq5
-returns-then-kind-eq5 c = λ p f i e hf h. refers_use p f (omega arith) c.at-kind.ensures.is c.saturating_add-name.ensures c.past_name-rest.ensures c.if-kind-eq5.true (λ y xs hy hx. ap₂ (λ (a b : Bool). not a && b) (c.same_at.ensures y f hy hf) (c.are_there.ensures p y xs e hy hx)) i h
-
-pub returns : goal.returns
-returns c = λ p f i e hf h. refers_none p f (omega arith) c.at-kind.ensures.is c.saturating_add-name.ensures c.past_name-rest.ensures c.if-kind-eq3.false c.if-kind-eq4.false c.if-kind-eq5.false i h
+pub returns-in-Use : goal.returns-in-Use
+returns-in-Use c = λ p f i e hf h.
+    by_kind Use (λ i. (not c.same_at.result && c.are_there.result) ≡ item_resolved p f i) c.item_kind_at.ensures c.in-Use.is
+    (λ y xs k. let n = item_name (omega arith) c.saturating_add-name.ensures (i_use y xs) k in
+    ap₂ (λ (a b : Bool). not a && b) (c.same_at.ensures y f n hf) (c.are_there.ensures p y xs e n (item_tail (omega arith) c.saturating_add-name.ensures c.past_name-rest.ensures (i_use y xs) k)))
+    i h

@@ -1,12 +1,12 @@
-use Rattle.std.proofs.Common.{◌≡◌, ◌-◌, ◌≤◌, List, ◌∷◌, length}
-use Rattle.language.specs.Syntax.{Name, Item, Prog}
-use Rattle.rows.specs.Has.{Has, named}
-use Rattle.rows.specs.Trees.{list_row, item_row, prog_row}
-use Rattle.names.proofs.Referring.{Refer}
+-- `check_items`: the loop's invariant, by what is left.
+use Rattle.std.proofs.Common.{◌≡◌, ◌≤◌, length}
+use Rattle.language.specs.Syntax.{File, Prog}
+use Rattle.rows.specs.Has.{Has}
+use Rattle.rows.specs.Trees.{item_row, file_row, prog_row}
+use Rattle.limits.specs.Entries.{Left}
+use Rattle.limits.proofs.EntryLaws.{Rest}
+use Rattle.names.specs.Resolved.{items_resolved}
 use Rattle.names.proofs.items.check_items.Given as goal
 
-abbrev pub invariant-loop-n : goal.invariant-loop-n
-invariant-loop-n l = (length l.row ≤ length l.pile) × ((p : Prog) (f : Name) (is : List Item) → l.row ≡ prog_row p → Has l.row l.file (named f) → Has l.row l.place (length is ∷ list_row item_row is) → Refer l.row p f is l.item l.n)
-
-abbrev pub decreases-loop-n : goal.decreases-loop-n
-decreases-loop-n l = l.items - l.n
+abbrev pub invariant-loop-item : goal.invariant-loop-item
+invariant-loop-item l = (length l.row ≤ length l.pile) × ((p : Prog) (f : File) → l.row ≡ prog_row p → Has l.row l.file (file_row f) → Rest (Left item_row) l.row (λ is. items_resolved p f.name f.items ≡ items_resolved p f.name is) l.item-iterator)

@@ -1,12 +1,13 @@
-use Rattle.std.proofs.Common.{◌≡◌, ◌-◌, List, length}
-use Rattle.rows.specs.Has.{Has}
-use Rattle.rows.specs.Trees.{Local, list_row, local_row}
-use Rattle.names.specs.Kinds.{IsListed}
-use Rattle.names.proofs.Referring.{Alike}
+-- `same_kinds`: the loop's invariant, by what is left of both.
+use Rattle.std.proofs.Common.{◌≡◌, List}
+use Rattle.rows.specs.Trees.{Local, local_row}
+use Rattle.limits.specs.Entries.{Left}
+use Rattle.limits.proofs.EntryLaws.{Rest}
+use Rattle.names.specs.Fold.{fit}
+use Rattle.names.specs.Effects.{local_kinds}
 use Rattle.names.proofs.items.same_kinds.Given as goal
 
-abbrev pub invariant-loop-k : goal.invariant-loop-k
-invariant-loop-k l = (ls ms : List Local) → IsListed l.row ls l.a → Has l.row l.initial.second (list_row local_row ms) → length ms ≡ l.a.count → Alike l.row ls ms l.first l.second l.a.count l.k
-
-abbrev pub decreases-loop-k : goal.decreases-loop-k
-decreases-loop-k l = l.a.count - l.k
+abbrev pub invariant-loop-name : goal.invariant-loop-name
+invariant-loop-name l =
+    (ls ms : List Local) → Left local_row l.row l.fn.names ls → Left local_row l.row l.others ms
+    → Rest (Left local_row) l.row (λ us. Rest (Left local_row) l.row (λ vs. fit (local_kinds ls) (local_kinds ms) ≡ fit (local_kinds us) (local_kinds vs)) l.rest) l.name-iterator

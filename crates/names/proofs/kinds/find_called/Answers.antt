@@ -1,10 +1,10 @@
-use Rattle.names.proofs.NameKinds.{called-own, called-top}
+-- `find_called`: none of the function's own.
+use Rattle.std.proofs.Common.{sym, ◌∙◌}
+use Rattle.names.proofs.NameKinds.{called-own, called-top, own-some, own-none}
 use Rattle.names.proofs.kinds.find_called.Goals as goal
 
-pub returns-in-Some : goal.returns-in-Some
-returns-in-Some c = λ p f g x e hf hi hx.
-    called-own p f g x (c.in-Some.ensures g x hi hx).is
+pub returns-then-is_some : goal.returns-then-is_some
+returns-then-is_some c = λ p f g e hf hi. let o = own-some g c.args.name.now c.own_in.result (c.own_in.ensures g hi) (sym c.is_some.ensures ∙ c.if-is_some.true) in called-own p f g c.args.name.now o.1
 
-pub returns-in-None : goal.returns-in-None
-returns-in-None c = λ p f g x e hf hi hx.
-    called-top c.args.row.now p f g x (c.in-None.ensures g x hi hx) c.resolve.result (c.resolve.ensures p f x e hf hx)
+pub returns : goal.returns
+returns c = λ p f g e hf hi. called-top c.args.row.now p f g c.args.name.now (own-none g c.args.name.now c.own_in.result (c.own_in.ensures g hi) (sym c.is_some.ensures ∙ c.if-is_some.false)) c.resolve.result (c.resolve.ensures p f e hf)

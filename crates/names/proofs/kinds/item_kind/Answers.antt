@@ -1,12 +1,17 @@
-use Rattle.std.proofs.Common.{arith}
-use Rattle.names.proofs.NameKinds.{kind-word, kind_array, kind_none}
+-- `item_kind`: a word, or an array by its width.
+use Rattle.std.proofs.Common.{◌≡◌, Some, inl, inr, ap, ◌∙◌, arith}
+use Rattle.language.specs.Syntax.{k_arr, Item, i_arr, i_data}
+use Rattle.rows.specs.declared.kind.ItemKind.TheVariants.{Array, Data}
+use Rattle.rows.specs.Kinds.{local_kind}
+use Rattle.rows.proofs.Having.{has_word}
+use Rattle.limits.proofs.Places.{by_kind, item_tail, flag}
+use Rattle.names.specs.Kinds.{kind_found, kind_of_item}
 use Rattle.names.proofs.kinds.item_kind.Goals as goal
 
-pub returns-then-kind-eq0 : goal.returns-then-kind-eq0
-returns-then-kind-eq0 c = λ i h. kind-word c.at-kind.ensures.is c.if-kind-eq0.true i h
-
-pub returns-then-kind-lt3 : goal.returns-then-kind-lt3
-returns-then-kind-lt3 c = λ i h. kind_array c.at-kind.ensures.is (omega arith) c.if-kind-eq0.false c.if-kind-lt3.true c.saturating_add.ensures c.past_name.ensures c.at.ensures.is i h
-
-pub returns : goal.returns
-returns c = λ i h. kind_none c.at-kind.ensures.is (omega arith) i h
+pub returns-in-Array : goal.returns-in-Array
+returns-in-Array c =
+    let C : Item → Type 0 = λ i. Some c.array_kind.result ≡ kind_found (kind_of_item i) in
+    elim c.in-Array.is [
+      | inl e ↦ by_kind Array C c.item_kind_at.ensures e (λ b h. ap Some (c.array_kind.ensures ∙ ap (λ t. local_kind (k_arr t)) (flag b.wide (c.at-width.ensures.is ∙ has_word (item_tail (omega arith) c.saturating_add.ensures c.past_name.ensures (i_arr b) h)))))
+      | inr e ↦ by_kind Data C c.item_kind_at.ensures e (λ b x ns h. ap Some (c.array_kind.ensures ∙ ap (λ t. local_kind (k_arr t)) (flag b (c.at-width.ensures.is ∙ has_word (item_tail (omega arith) c.saturating_add.ensures c.past_name.ensures (i_data b x ns) h)))))
+    ]

@@ -1,9 +1,20 @@
-use Rattle.std.proofs.Common.{arith}
-use Rattle.names.proofs.NameKinds.{first-none, first_some}
+-- `params_first`: the first name, if there is one.
+use Rattle.std.proofs.Common.{List, sym, ap, subst}
+use mathlib.Core.Option.{some}
+use Rattle.language.specs.Syntax.{Name}
+use Rattle.language.specs.Meaning.{on_some}
+use Rattle.language.specs.Checks.{fn_named, head_fn}
+use Rattle.names.specs.Kinds.{FindsParams}
 use Rattle.names.proofs.kinds.params_first.Goals as goal
 
-pub returns-then-at-eq0 : goal.returns-then-at-eq0
-returns-then-at-eq0 c = λ p f fs e hf h. first-none p f fs c.at.ensures.is c.if-at-eq0.true h
+pub returns-in_err-first : goal.returns-in_err-first
+returns-in_err-first c = λ p f fs e hf h.
+    let n = c.in_err-first.ensures.steps c.args.row.now fs (c.counted-names.ensures.left fs h) in
+    subst (FindsParams c.args.row.now (head_fn p f fs)) (sym c.from_residual.ensures) (ap (head_fn p f) n)
 
-pub returns-else-at-eq0 : goal.returns-else-at-eq0
-returns-else-at-eq0 c = λ p f fs e hf h. first_some c.params_named.result p f fs (omega arith) c.at.ensures.is c.if-at-eq0.false c.saturating_add.ensures (λ x hx. c.params_named.ensures p f x e hf hx) h
+pub returns : goal.returns
+returns c = λ p f fs e hf h.
+    let v = c.in_ok-first.ensures.steps c.args.row.now fs (c.counted-names.ensures.left fs h) in
+    let q = c.params_named.ensures p f e hf in
+    subst (λ (xs : List Name). FindsParams c.args.row.now (head_fn p f xs) c.params_named.result) (sym v.2)
+    (subst (λ x. FindsParams c.args.row.now (on_some (fn_named p f x) (λ h. some h.params)) c.params_named.result) (c.name_at.ensures v.0 v.3) q)

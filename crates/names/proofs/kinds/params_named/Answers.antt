@@ -1,11 +1,15 @@
-use Rattle.std.proofs.Common.{ap}
+-- `params_named`: those of the item that is meant.
+use Rattle.std.proofs.Common.{sym, ap, subst}
 use mathlib.Core.Option.{Option, some}
 use Rattle.language.specs.Meaning.{on_some, Top, as_fn}
+use Rattle.language.specs.Checks.{fn_named}
+use Rattle.names.specs.Kinds.{FindsParams}
 use Rattle.names.proofs.NameKinds.{params_here}
 use Rattle.names.proofs.kinds.params_named.Goals as goal
 
-pub returns-in-Some : goal.returns-in-Some
-returns-in-Some c = λ p f x e hf hx. params_here (c.in-Some.ensures p f x e hf hx).top c.params_at.result c.params_at.ensures
+pub returns-in_err-spot : goal.returns-in_err-spot
+returns-in_err-spot c = λ p f e hf.
+    subst (FindsParams c.args.row.now (on_some (fn_named p f c.args.name.now) (λ h. some h.params))) (sym c.from_residual.ensures) (ap (λ (o : Option Top). on_some (on_some o as_fn) (λ h. some h.params)) (c.in_err-spot.ensures p f e hf))
 
-pub returns-in-None : goal.returns-in-None
-returns-in-None c = λ p f x e hf hx. ap (λ (o : Option Top). on_some (on_some o as_fn) (λ h. some h.params)) (c.in-None.ensures p f x e hf hx)
+pub returns : goal.returns
+returns c = λ p f e hf. params_here (c.in_ok-spot.ensures p f e hf).top c.params_at.result c.params_at.ensures

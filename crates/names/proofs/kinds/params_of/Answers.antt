@@ -1,8 +1,12 @@
+-- `params_of`: those of the function that is called.
+use Rattle.std.proofs.Common.{sym, subst}
+use Rattle.language.specs.Checks.{params_of}
+use Rattle.names.specs.Kinds.{FindsParams}
 use Rattle.names.proofs.NameKinds.{no_params, yes_params}
 use Rattle.names.proofs.kinds.params_of.Goals as goal
 
-pub returns-in-Some : goal.returns-in-Some
-returns-in-Some c = λ p f g x e hf hi hx. yes_params p f g x c.params_at.result (c.in-Some.ensures p f g x e hf hi hx) c.params_at.ensures
+pub returns-in_err-spot : goal.returns-in_err-spot
+returns-in_err-spot c = λ p f g e hf hi. subst (FindsParams c.args.row.now (params_of p f g c.args.name.now)) (sym c.from_residual.ensures) (no_params p f g c.args.name.now (c.in_err-spot.ensures p f g e hf hi))
 
-pub returns-in-None : goal.returns-in-None
-returns-in-None c = λ p f g x e hf hi hx. no_params p f g x (c.in-None.ensures p f g x e hf hi hx)
+pub returns : goal.returns
+returns c = λ p f g e hf hi. yes_params p f g c.args.name.now c.params_at.result (c.in_ok-spot.ensures p f g e hf hi) c.params_at.ensures

@@ -1,9 +1,15 @@
-use Rattle.std.proofs.Common.{arith}
-use Rattle.names.proofs.NameKinds.{table-some, table_none}
+-- `table_at`: the first of a table's functions.
+use Rattle.std.proofs.Common.{◌∙◌, arith}
+use Rattle.language.specs.Syntax.{i_table}
+use Rattle.rows.specs.declared.kind.ItemKind.TheVariants.{Table}
+use Rattle.limits.proofs.Places.{by_kind, item_tail}
+use Rattle.names.specs.Kinds.{item_table, FindsParams}
+use Rattle.names.proofs.NameKinds.{table_none}
 use Rattle.names.proofs.kinds.table_at.Goals as goal
 
-pub returns-then-at-eq3 : goal.returns-then-at-eq3
-returns-then-at-eq3 c = λ p f i e hf h. table-some c.at.ensures.is c.params_first.result p f (omega arith) c.if-at-eq3.true c.saturating_add.ensures c.past_name.ensures (λ fs hs. c.params_first.ensures p f fs e hf hs) i h
+pub returns-in-Table : goal.returns-in-Table
+returns-in-Table c = λ p f i e hf h.
+    by_kind Table (λ i. FindsParams c.args.row.now (item_table p f i) c.params_first.result) c.item_kind_at.ensures c.in-Table.is (λ y fs k. c.params_first.ensures p f fs e hf (item_tail (omega arith) c.saturating_add.ensures c.past_name.ensures (i_table y fs) k)) i h
 
-pub returns-else-at-eq3 : goal.returns-else-at-eq3
-returns-else-at-eq3 c = λ p f i e hf h. table_none c.at.ensures.is p f c.if-at-eq3.false i h
+pub returns-in_default : goal.returns-in_default
+returns-in_default c = λ p f i e hf h. table_none p f i (λ q. c.in_default.not-Table (c.item_kind_at.ensures i h ∙ q))

@@ -1,13 +1,14 @@
-use Rattle.std.proofs.Common.{sym, ap}
+-- `top_kind`: the kind of the item that is meant.
+use Rattle.std.proofs.Common.{sym, ap, ◌∙◌}
 use mathlib.Core.Option.{Option}
 use Rattle.language.specs.Meaning.{on_some, Top}
 use Rattle.language.specs.Checks.{kind_is}
-use Rattle.names.specs.Kinds.{kind_or}
+use Rattle.names.specs.Kinds.{kind_found}
 use Rattle.names.proofs.NameKinds.{kind_here}
 use Rattle.names.proofs.kinds.top_kind.Goals as goal
 
-pub returns-in-Some : goal.returns-in-Some
-returns-in-Some c = λ p f x e hf hx. kind_here (c.in-Some.ensures p f x e hf hx).top c.item_kind.ensures
+pub returns-in_err-spot : goal.returns-in_err-spot
+returns-in_err-spot c = λ p f e hf. c.from_residual.ensures ∙ sym (ap (λ (o : Option Top). kind_found (on_some o (λ t. kind_is t.is))) (c.in_err-spot.ensures p f e hf))
 
-pub returns-in-None : goal.returns-in-None
-returns-in-None c = λ p f x e hf hx. sym (ap (λ (o : Option Top). kind_or (on_some o (λ t. kind_is t.is))) (c.in-None.ensures p f x e hf hx))
+pub returns : goal.returns
+returns c = λ p f e hf. kind_here (c.in_ok-spot.ensures p f e hf).top c.item_kind.ensures

@@ -1,15 +1,24 @@
-use Rattle.std.proofs.Common.{arith}
-use Rattle.names.proofs.Piles.{matches-none, matches_more, matches_stop, matches_all}
+-- `are_kinds`: kind by kind, name by name.
+use Rattle.std.proofs.Common.{sym, ◌∙◌}
+use Rattle.rows.specs.Trees.{local_row}
+use Rattle.rows.proofs.Having.{has_word}
+use Rattle.limits.specs.Entries.{Left}
+use Rattle.limits.proofs.EntryLaws.{rest_by, rest_next, rest_none}
+use Rattle.names.proofs.Piles.{compared_none, compared_more, compared_stop, compared_all}
 use Rattle.names.proofs.pile.are_kinds.Goals as goal
 
-pub loop-k-init : goal.loop-k-init
-loop-k-init c = λ ls ks v h e. matches-none ls ks v h e
+pub returns-in_default : goal.returns-in_default
+returns-in_default c = λ ls ks k e. rest_by (Left local_row) (c.loop-name.invariant ls ks k e) c.in-Some.ensures.steps (λ m ms h r v. compared_none m ms v c.in_default.ensures.cases)
 
-pub loop-k-preserved : goal.loop-k-preserved
-loop-k-preserved c = λ ls ks v h e. matches_more (omega arith) (omega arith) c.saturating_add.ensures c.at.ensures.is c.at-in-loop-k.ensures.is (omega arith) c.saturating_add-in-loop-k.ensures c.past_name-place.ensures c.if-at.false (c.loop-k.invariant ls ks v h e)
+pub returns-then-at-kind : goal.returns-then-at-kind
+returns-then-at-kind c = λ ls ks k e.
+    rest_by (Left local_row) (c.loop-name.invariant ls ks k e) c.in-Some.ensures.steps
+    (λ m ms h r v. compared_stop m ms v c.in-Some-split_first.ensures.cases.0 (λ q. c.if-at-kind.true (c.at.ensures.is ∙ has_word h ∙ sym q)))
 
-pub returns-then-at : goal.returns-then-at
-returns-then-at c = λ ls ks v h e. matches_stop (omega arith) (omega arith) c.saturating_add.ensures c.at.ensures.is c.at-in-loop-k.ensures.is c.if-at.true (c.loop-k.invariant ls ks v h e)
+pub loop-name-preserved : goal.loop-name-preserved
+loop-name-preserved c = λ ls ks k e.
+    rest_next (Left local_row) (c.loop-name.invariant ls ks k e) c.in-Some.ensures.steps
+    (λ m ms h r v. compared_more m ms v c.in-Some-split_first.ensures.cases.0 (sym c.if-at-kind.false ∙ c.at.ensures.is ∙ has_word h))
 
 pub returns : goal.returns
-returns c = λ ls ks v h e. matches_all (omega arith) (c.loop-k.invariant ls ks v h e)
+returns c = λ ls ks k e. compared_all c.is_empty.ensures (rest_none (Left local_row) (c.loop-name.invariant ls ks k e) c.in-None.ensures.steps)
