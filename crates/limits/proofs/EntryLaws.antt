@@ -1,6 +1,6 @@
 -- Entries of a row passed one by one: what is left of them, and what holds of it.
-use Rattle.std.proofs.Common.{◌≡◌, ℕ, ◌+◌, ◌<◌, ◌≤◌, min, Bool, true, false, ◌&&◌, ◌||◌, List, [], ◌∷◌, length, sym, refl, ap, ◌∙◌, subst, arith, length-append, MatchOption, IfSome, Option, Some, None}
-use Rattle.std.specs.Iterator.{ChecksAny, ChecksAll, FindsItem, FoldsItems, FoldTurn, Yields}
+use Rattle.std.proofs.Common.{◌≡◌, ℕ, suc, ◌+◌, ◌<◌, ◌≤◌, min, Bool, true, false, ◌&&◌, ◌||◌, List, [], ◌∷◌, length, sym, refl, ap, ◌∙◌, subst, arith, length-append, MatchOption, IfSome, Option, Some, None}
+use Rattle.std.specs.Iterator.{ChecksAny, ChecksAll, FindsItem, FoldsItems, FoldTurn, Drains, Yields}
 use Rattle.std.specs.List.{FoldsTo}
 use Rattle.std.specs.Fn.{CalledAt}
 use Rattle.std.specs.Borrow.{Bor}
@@ -82,6 +82,14 @@ module _ {S T : Type 0} (L : List ℕ → S → List T → Type 0) {w : List ℕ
 
     pub rest_next : {Q : List T → Type 0} {s t : S} {j : ℕ} → Rest L w P s → Gives L row s (Some j) t → ((x : T) (xs : List T) → Has w j (row x) → L w t xs → P (x ∷ xs) → Q xs) → Rest L w Q t
     rest_next r z it = rest_by r z (λ x xs h k p. record { ts = xs; left = k; holds = it x xs h k p })
+
+-- how many there are
+pub count_is : {S T : Type 0} (L : List ℕ → S → List T → Type 0) {row : T → List ℕ} {w : List ℕ} {s : S} {ts : List T} {n : ℕ} → L w s ts → (xs : List ℕ) × Drains (Gives L row) s xs × (n ≡ length xs) → n ≡ length ts
+count_is {S} {T} L {row} {w} {s} {ts} k c = c.2 ∙ go s c.1.1.0 c.1.0 c.0 ts k c.1.1.1 c.1.1.2
+  where
+    go : (s t u : S) (js : List ℕ) (ts : List T) → L w s ts → Yields (Gives L row) s js t → Gives L row t None u → length js ≡ length ts
+    go s t u [] ts k y z = sym (ap length (z w ts (subst (λ v. L w v ts) y k)))
+    go s t u (j ∷ js) ts k y z = let v = y.1 w ts k in ap suc (go y.0 t u js v.1 v.4 y.2 z) ∙ sym (ap length v.2)
 
 -- one after another is asked by a call, which says p of it
 module _ {S T F : Type 0} (L : List ℕ → S → List T → Type 0) {row : T → List ℕ} {w : List ℕ} {g : Mut F (ℕ × Unit {0}) Bool} {f : F} (p : T → Bool) (says : (x : T) (j : ℕ) (b : Bool) (f' : F) → Has w j (row x) → Called g f (j, tt) b f' → (f' ≡ f) × (b ≡ p x)) where

@@ -61,7 +61,7 @@ long-locals g =
     let us = map_list of_var g.vars in
     omega (arith, length-append (map_list of_param g.params) (us ++ vs), length-append us vs, long-map of_param g.params, long-map of_var g.vars, long-map of_array g.arrs)
 
-list_row-append : {A : Type 0} (row : A → List ℕ) (xs ys : List A) → list_row row (xs ++ ys) ≡ list_row row xs ++ list_row row ys
+pub list_row-append : {A : Type 0} (row : A → List ℕ) (xs ys : List A) → list_row row (xs ++ ys) ≡ list_row row xs ++ list_row row ys
 list_row-append row [] ys = refl
 list_row-append row (x ∷ xs) ys = ap (λ (l : List ℕ). row x ++ l) (list_row-append row xs ys) ∙ sym (append_assoc (row x) (list_row row xs) (list_row row ys))
 

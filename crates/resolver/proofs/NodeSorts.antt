@@ -13,7 +13,7 @@ use Rattle.generator.specs.ResolvedRows.{node_words}
 use Rattle.names.specs.declared.found.Reference as found
 use Rattle.names.specs.Refer.{meant}
 use Rattle.names.proofs.NodeEffects.{tag_of}
-use Rattle.names.proofs.BodyNodes.{node-long}
+use Rattle.limits.proofs.BodyLaws.{node-long}
 use Rattle.names.proofs.Referents.{generated}
 use Rattle.resolver.specs.Sound.{Sound, Known, Checked}
 use Rattle.resolver.specs.Stands.{is_call, Fits, named_by, is_value_name, plain_tag_of, has_value}

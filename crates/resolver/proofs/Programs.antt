@@ -14,7 +14,7 @@ use Rattle.steps.specs.Generate.{sorted, pos, number, fn_no, fn_nos}
 use Rattle.steps.proofs.Checked.{and-true, opt_true, some_then}
 use Rattle.steps.proofs.Variables.{none-some}
 use Rattle.generator.specs.ResolvedRows.{Routine, routine_words, table_words, resolved_words, resolve_fn, resolve_prog}
-use Rattle.names.proofs.NameKinds.{list_row-append}
+use Rattle.limits.proofs.Places.{list_row-append}
 use Rattle.names.proofs.Referring.{no_files, first-file-at}
 use Rattle.resolver.specs.Sound.{Sound}
 use Rattle.resolver.specs.Items.{item_words, file_words, sum_of, is_sort, sort_in}

@@ -12,9 +12,7 @@ use Rattle.steps.specs.Generate.{words_of, arrays_of, slots_from, slots_of, shap
 use Rattle.steps.proofs.Checked.{and-true}
 use Rattle.generator.specs.Resolved.{resolve_nodes}
 use Rattle.generator.specs.ResolvedRows.{node_words, shape_words, routine_words, resolve_fn}
-use Rattle.names.proofs.BodyNodes.{node-long}
-use Rattle.resolver.specs.declared.function.Head.{Head}
-use Rattle.resolver.specs.Heads.{IsHead}
+use Rattle.limits.proofs.BodyLaws.{node-long}
 use Rattle.resolver.proofs.Locals.{param_arrays}
 use Rattle.resolver.proofs.Nodes.{nodes-length}
 use Rattle.resolver.proofs.Walking.{pushed_as}
@@ -48,20 +46,18 @@ five : {a b c d e v w x y z : ℕ} → a ≡ v → b ≡ w → c ≡ x → d ≡
 five ea eb ec ed ee = rw (ea, eb, ec, ed, ee) refl
 
 -- each of the five words is what is counted, if that is a word
-pub routine-pushed : {w : List ℕ} {o q r s : Row} {a b c d e m k n : ℕ} {h : Head} (p : Prog) (f : Name) (g : Fn) → Few g → IsHead w g h → length (nodes_b g.body) < 4294967296 → m ≡ words_of (slots_from g.params [] []) → k ≡ h.params - m → n ≡ length (nodes_b g.body) → (m < 4294967296 → a ≡ m) → (k < 4294967296 → b ≡ k) → (h.vars < 4294967296 → c ≡ h.vars) → (h.arrays < 4294967296 → d ≡ h.arrays) → (n < 4294967296 → e ≡ n) → Pushed o q (a ∷ b ∷ c ∷ d ∷ e ∷ []) → Pushed q r (list_row shape_words (shapes_of g.arrs)) → Pushed r s (list_row node_words (resolve_nodes (scope p f (slots_of g)) (nodes_b g.body))) → Pushed o s (routine_words (resolve_fn p f g))
-routine-pushed {m = m} {k = k} {n = n} {h = h} p f g few hd ln em ek en wa wb wc wd we first own nodes =
+pub routine-pushed : {o q r s : Row} {a b c d e m k n : ℕ} {hp hv ha : ℕ} (p : Prog) (f : Name) (g : Fn) → Few g → hp ≡ length g.params → hv ≡ length g.vars → ha ≡ length g.arrs → length (nodes_b g.body) < 4294967296 → m ≡ words_of (slots_from g.params [] []) → k ≡ hp - m → n ≡ length (nodes_b g.body) → (m < 4294967296 → a ≡ m) → (k < 4294967296 → b ≡ k) → (hv < 4294967296 → c ≡ hv) → (ha < 4294967296 → d ≡ ha) → (n < 4294967296 → e ≡ n) → Pushed o q (a ∷ b ∷ c ∷ d ∷ e ∷ []) → Pushed q r (list_row shape_words (shapes_of g.arrs)) → Pushed r s (list_row node_words (resolve_nodes (scope p f (slots_of g)) (nodes_b g.body))) → Pushed o s (routine_words (resolve_fn p f g))
+routine-pushed {m = m} {k = k} {n = n} {hp = hp} p f g few ep ev ea ln em ek en wa wb wc wd we first own nodes =
     let qs = slots_from g.params [] [] in
     let pa = param_arrays g.params in
-    let hp = hd.params in
-    let hv = hd.vars in
-    let ha = hd.arrays in
+    let hp1 = ep in
     let fp = few.params in
     let fv = few.vars in
     let fa = few.arrays in
     let ka : k ≡ arrays_of qs = omega arith in
     let one = wa (omega arith) ∙ em in
     let two = wb (omega arith) ∙ ka in
-    let three = wc (omega arith) ∙ hv in
-    let four = wd (omega arith) ∙ (ha ∙ sym (shapes-length g.arrs)) in
+    let three = wc (omega arith) ∙ ev in
+    let four = wd (omega arith) ∙ (ea ∙ sym (shapes-length g.arrs)) in
     let last = we (omega arith) ∙ (en ∙ sym (nodes-length (scope p f (slots_of g)) (nodes_b g.body))) in
     pushed_more (pushed_as (five one two three four last) first) (pushed_more own nodes)

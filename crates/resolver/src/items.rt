@@ -1,35 +1,33 @@
-// Items of one sort, in the order of the files: 0 words, 3 tables, 4 functions.
-ghost use Rattle.std.specs.Prelude.{◌≡◌, true, List, ◌∷◌, length};
-ghost use Rattle.language.specs.Syntax.{Name, Item, i_table, Prog};
+// Items of one kind, in the order of the files: words, tables, functions.
+ghost use Rattle.std.specs.Prelude.{◌≡◌, true, List, ◌==◌};
+ghost use Rattle.language.specs.Syntax.{Name, Item, i_table, File, Prog};
 ghost use Rattle.language.specs.Checks.{ok_item, ok_is};
 ghost use Rattle.rows.specs.Row.{Pushed};
 ghost use Rattle.rows.specs.Has.{Has, named};
-ghost use Rattle.rows.specs.Trees.{list_row, item_row, prog_row};
+ghost use Rattle.rows.specs.Kinds.{item_kind_no};
+ghost use Rattle.rows.specs.Trees.{list_row, item_no, item_row, file_row, prog_row};
 ghost use Rattle.steps.specs.Fits.{Each};
 ghost use Rattle.steps.specs.Generate.{fn_nos};
 ghost use Rattle.generator.specs.ResolvedRows.{table_words};
+ghost use Rattle.limits.specs.Entries.{Left};
 ghost use Rattle.resolver.specs.Sound.{Sound, Known, Lent};
 ghost use Rattle.resolver.specs.Items.{item_words, file_words, sum_of, is_sort, sort_in};
 
 use crate::function::push_function;
 use crate::node::function_number;
 use crate::words::word;
-use names::find::past_items;
-use names::own::more;
-use rows::read::{at, past_item, past_name};
+use limits::entries::{Entries, Names, files_of, items_of};
+use rows::kind::ItemKind;
+use rows::read::{item_kind_at, name_at, past_name};
 use rows::row::Row;
 
-// The numbers of n functions that are named from a place on, in a file.
-fn push_numbers(row: &[u32], file: usize, place: usize, n: usize, out: &mut Row)
+// The numbers of functions that are named in a file.
+fn push_numbers(row: &[u32], file: usize, names: Entries<Names>, out: &mut Row)
     ensures lent { Lent out.old out.new }
-    ensures pushed { (p : Prog) (f : Name) (xs : List Name) → Sound row.now p → Has row.now file (named f) → Has row.now place (list_row named xs) → Each (Known p f) xs → length xs ≡ n → Pushed out.old out.new (fn_nos p f xs) }
+    ensures pushed { (p : Prog) (f : Name) (xs : List Name) → Sound row.now p → Has row.now file (named f) → Left named row.now names.entry xs → Each (Known p f) xs → Pushed out.old out.new (fn_nos p f xs) }
 {
-    let mut name = place;
-    let mut k = 0;
-    while k < n {
-        out.push(word(function_number(row, file, name)));
-        name = past_name(row, name);
-        k += 1;
+    for name in names {
+        out.push(word(function_number(row, file, name_at(row, name))));
     }
 }
 
@@ -38,91 +36,75 @@ fn push_table(row: &[u32], file: usize, item: usize, out: &mut Row)
     ensures lent { Lent out.old out.new }
     ensures pushed { (p : Prog) (f x : Name) (xs : List Name) → Sound row.now p → ok_item p f (i_table x xs) ≡ true → Has row.now file (named f) → Has row.now item (item_row (i_table x xs)) → Pushed out.old out.new (table_words (fn_nos p f xs)) }
 {
-    let place = past_name(row, item.saturating_add(2));
-    let n = at(row, place);
-    out.push(word(n));
-    push_numbers(row, file, place.saturating_add(1), n, out);
+    let names: Entries<Names> = Entries::counted(row, past_name(row, item.saturating_add(2)));
+    out.push(word(names.len()));
+    push_numbers(row, file, names, out);
 }
 
-// An item of a file, if it is of a sort.
-fn push_item(row: &[u32], sort: usize, file: usize, item: usize, out: &mut Row)
+// Whether an item is of a kind.
+fn is_of(row: &[u32], item: usize, kind: ItemKind) -> bool
+    ensures { (i : Item) → Has row.now item (item_row i) → result ≡ (item_no i == item_kind_no kind) }
+{
+    item_kind_at(row, item) == kind
+}
+
+// An item of a file, if it is of a kind.
+fn push_item(row: &[u32], kind: ItemKind, file: usize, item: usize, out: &mut Row)
     ensures lent { Lent out.old out.new }
-    ensures pushed { (p : Prog) (f : Name) (i : Item) → Sound row.now p → ok_item p f i ≡ true → Has row.now file (named f) → Has row.now item (item_row i) → Pushed out.old out.new (item_words p f sort i) }
+    ensures pushed { (p : Prog) (f : Name) (i : Item) → Sound row.now p → ok_item p f i ≡ true → Has row.now file (named f) → Has row.now item (item_row i) → Pushed out.old out.new (item_words p f (item_kind_no kind) i) }
 {
-    let kind = at(row, item);
-    if kind != sort {
-        return;
-    }
-    if kind == 4 {
-        push_function(row, file, item, out);
-        return;
-    }
-    if kind == 3 {
-        push_table(row, file, item, out);
-        return;
+    if is_of(row, item, kind) {
+        match kind {
+            ItemKind::Function => push_function(row, file, item, out),
+            ItemKind::Table => push_table(row, file, item, out),
+            ItemKind::Word | ItemKind::Array | ItemKind::Data | ItemKind::Use => {}
+        }
     }
 }
 
-// The items of a sort of a file; the items stand behind their number.
-fn push_items(row: &[u32], sort: usize, file: usize, place: usize, out: &mut Row)
+// The items of a kind of a file.
+fn push_items(row: &[u32], kind: ItemKind, file: usize, out: &mut Row)
     ensures lent { Lent out.old out.new }
-    ensures pushed { (p : Prog) (f : Name) (is : List Item) → Sound row.now p → ok_is p f is ≡ true → Has row.now file (named f) → Has row.now place (length is ∷ list_row item_row is) → Pushed out.old out.new (list_row (item_words p f sort) is) }
+    ensures pushed { (p : Prog) (f : File) → Sound row.now p → ok_is p f.name f.items ≡ true → Has row.now file (file_row f) → Pushed out.old out.new (file_words p (item_kind_no kind) f) }
 {
-    let items = at(row, place);
-    let mut item = place.saturating_add(1);
-    let mut n = 0;
-    while n < items {
-        push_item(row, sort, file, item, out);
-        item = past_item(row, item);
-        n += 1;
+    for item in items_of(row, file) {
+        push_item(row, kind, file, item, out);
     }
 }
 
-// The items of a sort of all files.
-pub fn push_files(row: &[u32], sort: usize, out: &mut Row)
+// The items of a kind of all files.
+pub fn push_files(row: &[u32], kind: ItemKind, out: &mut Row)
     ensures lent { Lent out.old out.new }
-    ensures pushed { (p : Prog) → Sound row.now p → Pushed out.old out.new (list_row (file_words p sort) p) }
+    ensures pushed { (p : Prog) → Sound row.now p → Pushed out.old out.new (list_row (file_words p (item_kind_no kind)) p) }
 {
-    let files = at(row, 0);
-    let mut place = 1;
-    let mut n = 0;
-    while n < files {
-        let head = past_name(row, place);
-        push_items(row, sort, place, head, out);
-        place = past_items(row, head);
-        n += 1;
+    for file in files_of(row) {
+        push_items(row, kind, file, out);
     }
 }
 
-// How many items of a file are of a sort; the items stand behind their number.
-fn count_items(row: &[u32], sort: usize, place: usize) -> usize
-    ensures { (is : List Item) → Has row.now place (length is ∷ list_row item_row is) → result ≡ sum_of (is_sort sort) is }
+// 1 if an item is of a kind.
+fn one_of(row: &[u32], item: usize, kind: ItemKind) -> usize
+    ensures { (i : Item) → Has row.now item (item_row i) → result ≡ is_sort (item_kind_no kind) i }
 {
-    let items = at(row, place);
-    let mut item = place.saturating_add(1);
-    let mut count = 0;
-    let mut n = 0;
-    while n < items {
-        count = more(at(row, item) == sort, count);
-        item = past_item(row, item);
-        n += 1;
-    }
-    count
+    if is_of(row, item, kind) { 1 } else { 0 }
 }
 
-// How many items of all files are of a sort.
-pub fn count_files(row: &[u32], sort: usize) -> usize
-    ensures { (p : Prog) → row.now ≡ prog_row p → result ≡ sum_of (sort_in sort) p }
+// How many items of a file are of a kind.
+fn count_items(row: &[u32], kind: ItemKind, file: usize) -> usize
+    ensures { (f : File) → Has row.now file (file_row f) → result ≡ sort_in (item_kind_no kind) f }
 {
-    let files = at(row, 0);
-    let mut place = 1;
-    let mut count: usize = 0;
-    let mut n = 0;
-    while n < files {
-        let head = past_name(row, place);
-        count = count.saturating_add(count_items(row, sort, head));
-        place = past_items(row, head);
-        n += 1;
-    }
-    count
+    items_of(row, file).fold(
+        0,
+        |count: usize, item| count.saturating_add(one_of(row, item, kind)),
+    )
+}
+
+// How many items of all files are of a kind.
+pub fn count_files(row: &[u32], kind: ItemKind) -> usize
+    ensures { (p : Prog) → row.now ≡ prog_row p → result ≡ sum_of (sort_in (item_kind_no kind)) p }
+{
+    files_of(row).fold(
+        0,
+        |count: usize, file| count.saturating_add(count_items(row, kind, file)),
+    )
 }

@@ -12,7 +12,8 @@ ghost use Rattle.generator.specs.ResolvedRows.{resolved_words, resolve_prog};
 ghost use Rattle.resolver.specs.Sound.{Sound, Lent};
 
 use items::{count_files, push_files};
-use names::find::find_top;
+use names::find::{MAIN, find_top};
+use rows::kind::ItemKind;
 use rows::row::Row;
 use words::word;
 
@@ -22,15 +23,12 @@ mod items;
 mod node;
 mod words;
 
-// The name main, behind its length.
-const MAIN: [u32; 5] = [4, 109, 97, 105, 110];
-
 // The number of main.
 fn main_number(row: &[u32]) -> usize
     ensures { (p : Prog) → Sound row.now p → result ≡ fn_no p (first_file p) w_main }
 {
-    match find_top(row, 1, &MAIN, 0) {
-        Some(s) => s.fns.saturating_add(1),
+    match find_top(row, 1, &MAIN) {
+        Some(spot) => spot.fns.saturating_add(1),
         None => 0,
     }
 }
@@ -41,12 +39,12 @@ pub fn resolve_program(row: &[u32], out: &mut Row)
     ensures lent { Lent out.old out.new }
     ensures pushed { (p : Prog) → row.now ≡ prog_row p → ok p ≡ true → length row.now < 4294967296 → Pushed out.old out.new (resolved_words (resolve_prog p)) }
 {
-    let words = count_files(row, 0);
-    let functions = count_files(row, 4);
+    let words = count_files(row, ItemKind::Word);
+    let functions = count_files(row, ItemKind::Function);
     out.push_all(&[word(words), word(main_number(row)), word(functions)]);
-    push_files(row, 4, out);
-    out.push(word(count_files(row, 3)));
-    push_files(row, 3, out);
+    push_files(row, ItemKind::Function, out);
+    out.push(word(count_files(row, ItemKind::Table)));
+    push_files(row, ItemKind::Table, out);
 }
 
 #[cfg(test)]

@@ -15,12 +15,12 @@ ghost use Rattle.resolver.specs.Stands.{seen};
 use crate::words::{Resolved, named, names_value, plain, word};
 use names::find::resolve;
 use names::refer::refer;
-use rows::read::{tag_at, word_at};
+use rows::read::{name_at, tag_at, word_at};
 use rows::tag::Tag;
 
 // The number of a function that is named in a file; function 0 calls main.
-pub fn function_number(row: &[u32], file: usize, name: usize) -> usize
-    ensures { (p : Prog) (f x : Name) → Sound row.now p → Has row.now file (named f) → Has row.now name (named x) → Known p f x → result ≡ fn_no p f x }
+pub fn function_number(row: &[u32], file: usize, name: &[u32]) -> usize
+    ensures { (p : Prog) (f : Name) → Sound row.now p → Has row.now file (named f) → Known p f name.now → result ≡ fn_no p f name.now }
 {
     match resolve(row, file, name) {
         Some(spot) => spot.fns.saturating_add(1),
@@ -29,8 +29,8 @@ pub fn function_number(row: &[u32], file: usize, name: usize) -> usize
 }
 
 // The number of a table that is named in a file.
-fn table_number(row: &[u32], file: usize, name: usize) -> usize
-    ensures { (p : Prog) (f x : Name) → Sound row.now p → Has row.now file (named f) → Has row.now name (named x) → Known p f x → result ≡ number as_table p f x }
+fn table_number(row: &[u32], file: usize, name: &[u32]) -> usize
+    ensures { (p : Prog) (f : Name) → Sound row.now p → Has row.now file (named f) → Known p f name.now → result ≡ number as_table p f name.now }
 {
     match resolve(row, file, name) {
         Some(spot) => spot.tables,
@@ -47,12 +47,12 @@ pub fn resolved_node(row: &[u32], file: usize, item: usize, node: usize) -> Reso
     let third = node.saturating_add(2);
     match tag {
         Tag::Call => Resolved::Call(
-            word(function_number(row, file, third)),
+            word(function_number(row, file, name_at(row, third))),
             word_at(row, second),
         ),
-        Tag::By => Resolved::By(word(table_number(row, file, third)), word_at(row, second)),
+        Tag::By => Resolved::By(word(table_number(row, file, name_at(row, third))), word_at(row, second)),
         _ => if names_value(tag) {
-            named(tag, refer(row, file, item, second))
+            named(tag, refer(row, file, item, name_at(row, second)))
         } else {
             plain(tag, word_at(row, second))
         },

@@ -1,12 +1,11 @@
-use Rattle.std.proofs.Common.{[], refl, arith}
-use Rattle.language.specs.Meaning.{first_file, w_main}
+use Rattle.language.specs.Meaning.{first_file}
 use Rattle.resolver.proofs.Programs.{main_there, main_number_is, main_not_none}
 use Rattle.resolver.proofs.main_number.Goals as goal
 
 pub returns-in-Some : goal.returns-in-Some
 returns-in-Some c = λ p so.
-    let v = c.in-Some.ensures p (first_file p) w_main so.is (main_there so) (record { rest = []; is = refl; inside = omega arith }) in
+    let v = c.in-Some.ensures p (first_file p) so.is (main_there so) in
     main_number_is so v.fns c.saturating_add.ensures
 
 pub returns-in-None : goal.returns-in-None
-returns-in-None c = λ p so. absurd (main_not_none so (c.in-None.ensures p (first_file p) w_main so.is (main_there so) (record { rest = []; is = refl; inside = omega arith })))
+returns-in-None c = λ p so. absurd (main_not_none so (c.in-None.ensures p (first_file p) so.is (main_there so)))

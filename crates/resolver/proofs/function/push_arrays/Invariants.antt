@@ -1,15 +1,14 @@
-use Rattle.std.proofs.Common.{◌≡◌, ◌-◌, true, List, length}
+-- `push_arrays`: the loop's invariant, by what is left.
+use Rattle.std.proofs.Common.{◌≡◌, true, List}
 use Rattle.language.specs.Syntax.{Arr}
 use Rattle.language.specs.Checks.{sizes}
-use Rattle.rows.specs.Has.{Has}
-use Rattle.rows.specs.Trees.{list_row, map_list, of_array, local_row}
+use Rattle.rows.specs.Trees.{map_list, of_array, local_row}
+use Rattle.limits.specs.Entries.{Left}
+use Rattle.limits.proofs.EntryLaws.{Rest}
 use Rattle.resolver.specs.Sound.{Lent}
-use Rattle.resolver.proofs.Walking.{Walk}
-use Rattle.resolver.proofs.Locals.{array_row, array_to, Sized}
+use Rattle.resolver.proofs.Locals.{ArraysLeft, array_to, Sized}
+use Rattle.resolver.proofs.Walking.{Pushing}
 use Rattle.resolver.proofs.function.push_arrays.Given as goal
 
-abbrev pub invariant-loop-k : goal.invariant-loop-k
-invariant-loop-k l = Lent l.initial.out l.out × ((bs : List Arr) → Has l.row l.place (list_row local_row (map_list of_array bs)) → length bs ≡ l.n → sizes 4096 bs ≡ true → Walk l.row array_row array_to Sized bs l.at_entry l.k l.initial.out l.out)
-
-abbrev pub decreases-loop-k : goal.decreases-loop-k
-decreases-loop-k l = l.n - l.k
+abbrev pub invariant-loop-array : goal.invariant-loop-array
+invariant-loop-array l = Lent l.initial.out l.out × ((bs : List Arr) → Left local_row l.row l.fn.arrays (map_list of_array bs) → sizes 4096 bs ≡ true → Rest ArraysLeft l.row (Pushing array_to Sized bs l.initial.out l.out) l.array-iterator)

@@ -1,17 +1,18 @@
-use Rattle.std.proofs.Common.{ℕ, ◌+◌, min, eqb, ap, ◌∙◌, arith}
-use Rattle.language.specs.Words.{bit}
-use Rattle.rows.proofs.Having.{has_word}
-use Rattle.resolver.proofs.ItemLoops.{items_at, sort_small, tally_none, tally_more, tally_all}
+-- `count_items`: item by item.
+use Rattle.std.proofs.Common.{◌≡◌, ◌+◌, min, arith, rules}
+use Rattle.rows.specs.Kinds.{item_kind_no}
+use Rattle.rows.specs.Trees.{item_row}
+use Rattle.limits.specs.Entries.{Left}
+use Rattle.limits.proofs.EntryLaws.{fold_is}
+use Rattle.resolver.specs.Items.{sum_of, is_sort}
+use Rattle.resolver.proofs.ItemLoops.{sort_small}
 use Rattle.resolver.proofs.items.count_items.Goals as goal
 
-pub loop-n-init : goal.loop-n-init
-loop-n-init c = λ is h. tally_none is (items_at is (omega arith) c.saturating_add-item.ensures h)
-
-pub loop-n-preserved : goal.loop-n-preserved
-loop-n-preserved c = λ is h.
-    let s = c.args.sort in
-    let m = c.loop-n.count in
-    tally_more (omega (arith, has_word h)) (sort_small s is (omega arith) h) (λ i hi. c.more-count.ensures ∙ ap (λ (n : ℕ). min (m + bit (eqb n s)) 18446744073709551615) (c.at.ensures.is ∙ has_word hi)) (λ i hi. omega (arith, c.past_item-item.ensures i hi)) (c.loop-n.invariant is h)
-
 pub returns : goal.returns
-returns c = λ is h. tally_all (omega (arith, has_word h)) (c.loop-n.invariant is h)
+returns c = λ f h.
+    let n = item_kind_no c.args.kind in
+    omega (
+      arith,
+      fold_is (Left item_row) (is_sort n) (λ a m. min (a + m) 18446744073709551615) (λ a b i j f' k q. search rules)
+          (λ a is. a + sum_of (is_sort n) is ≡ sum_of (is_sort n) f.items) (λ a i is p. omega (arith, p, sort_small n f (omega arith) h)) (c.items_of.ensures.left f h) (omega arith) c.fold.ensures.ran,
+    )

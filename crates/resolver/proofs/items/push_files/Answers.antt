@@ -1,19 +1,24 @@
-use Rattle.std.proofs.Common.{arith}
-use Rattle.resolver.proofs.Walking.{lent_none, lent-more, walk_none, walk_more, walk_all}
-use Rattle.resolver.proofs.ItemLoops.{files-at, files-count, right-all, file-name, file_items, file_past}
+-- `push_files`: file by file.
+use Rattle.std.proofs.Common.{sym, subst}
+use Rattle.rows.specs.Trees.{file_row}
+use Rattle.limits.specs.Entries.{Left}
+use Rattle.limits.proofs.EntryLaws.{rest_next, rest_none}
+use Rattle.resolver.proofs.ItemLoops.{right-all}
+use Rattle.resolver.proofs.Walking.{lent_none, lent-more, pushing_none, pushing_more, pushing_all}
 use Rattle.resolver.proofs.items.push_files.Goals as goal
 
-pub loop-n-init : goal.loop-n-init
-loop-n-init c = (lent_none c.args.out.now, λ p so. walk_none p c.args.out.now (files-at p so.is) (right-all p so.right))
+pub loop-file-init : goal.loop-file-init
+loop-file-init c = (
+  lent_none c.args.out.now,
+  λ p so. record { ts = p; left = subst (λ s. Left file_row c.args.row.now s p) (sym c.into_iter-file-iterator.ensures.into_iter_gives) (c.files_of-file-items.ensures p so.is); holds = pushing_none p c.args.out.now (right-all p so.right) },
+)
 
-pub loop-n-preserved : goal.loop-n-preserved
-loop-n-preserved c =
-    let i = c.loop-n.invariant in (
-      lent-more i.0 c.push_items.ensures.lent,
-      λ p so. walk_more (omega (arith, files-count p so.is c.at-files.ensures.is)) (λ f hf kf. c.push_items.ensures.pushed p f.name f.items so kf (file-name f hf c.past_name-head.ensures) (file_items f hf c.past_name-head.ensures)) (λ f hf. file_past f hf c.past_name-head.ensures c.past_items-place.ensures) (i.1 p so),
-    )
+pub loop-file-preserved : goal.loop-file-preserved
+loop-file-preserved c =
+    let i = c.loop-file.invariant in
+    (lent-more i.0 c.push_items.ensures.lent, λ p so. rest_next (Left file_row) (i.1 p so) c.in-Some.ensures.steps (λ f fs hf r v. pushing_more f fs v (λ kf. c.push_items.ensures.pushed p f so kf hf)))
 
 pub returns : goal.returns
 returns c =
-    let i = c.loop-n.invariant in
-    record { lent = i.0; pushed = λ p so. walk_all (omega (arith, files-count p so.is c.at-files.ensures.is)) (i.1 p so) }
+    let i = c.loop-file.invariant in
+    record { lent = i.0; pushed = λ p so. pushing_all (rest_none (Left file_row) (i.1 p so) c.in-None.ensures.steps) }

@@ -1,16 +1,18 @@
-use Rattle.std.proofs.Common.{◌≡◌, ◌-◌, true, List, ◌∷◌, length}
-use Rattle.language.specs.Syntax.{Name, Item, Prog}
+-- `push_items`: the loop's invariant, by what is left.
+use Rattle.std.proofs.Common.{◌≡◌, true}
+use Rattle.language.specs.Syntax.{File, Prog}
 use Rattle.language.specs.Checks.{ok_is}
-use Rattle.rows.specs.Has.{Has, named}
-use Rattle.rows.specs.Trees.{list_row, item_row}
+use Rattle.rows.specs.Has.{Has}
+use Rattle.rows.specs.Kinds.{item_kind_no}
+use Rattle.rows.specs.Trees.{item_row, file_row}
+use Rattle.limits.specs.Entries.{Left}
+use Rattle.limits.proofs.EntryLaws.{Rest}
 use Rattle.resolver.specs.Sound.{Sound, Lent}
 use Rattle.resolver.specs.Items.{item_words}
-use Rattle.resolver.proofs.Walking.{Walk}
 use Rattle.resolver.proofs.ItemLoops.{RightItem}
+use Rattle.resolver.proofs.Walking.{Pushing}
 use Rattle.resolver.proofs.items.push_items.Given as goal
 
-abbrev pub invariant-loop-n : goal.invariant-loop-n
-invariant-loop-n l = Lent l.initial.out l.out × ((p : Prog) (f : Name) (is : List Item) → Sound l.row p → ok_is p f is ≡ true → Has l.row l.file (named f) → Has l.row l.place (length is ∷ list_row item_row is) → Walk l.row item_row (item_words p f l.sort) (RightItem p f) is l.item l.n l.initial.out l.out)
-
-abbrev pub decreases-loop-n : goal.decreases-loop-n
-decreases-loop-n l = l.items - l.n
+abbrev pub invariant-loop-item : goal.invariant-loop-item
+invariant-loop-item l =
+    Lent l.initial.out l.out × ((p : Prog) (f : File) → Sound l.row p → ok_is p f.name f.items ≡ true → Has l.row l.file (file_row f) → Rest (Left item_row) l.row (Pushing (item_words p f.name (item_kind_no l.kind)) (RightItem p f.name) f.items l.initial.out l.out) l.item-iterator)

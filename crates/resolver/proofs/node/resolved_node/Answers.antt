@@ -1,5 +1,9 @@
-use Rattle.std.proofs.Common.{◌≡◌, ℕ, false, [], ◌∷◌, sym, ap, ◌∙◌, arith}
+use Rattle.std.proofs.Common.{◌≡◌, ℕ, false, [], ◌∷◌, sym, ap, ◌∙◌, subst, arith}
 use Rattle.language.specs.Syntax.{pick}
+use Rattle.language.specs.Meaning.{as_table}
+use Rattle.steps.specs.Generate.{scope, slots_of, number, fn_no}
+use Rattle.names.specs.Refer.{meant}
+use Rattle.resolver.specs.Sound.{Known}
 use Rattle.rows.specs.NodeTags.{tag_no}
 use Rattle.generator.specs.ResolvedRows.{node_words}
 use Rattle.names.proofs.NodeEffects.{tag_is}
@@ -13,18 +17,18 @@ use Rattle.resolver.proofs.node.resolved_node.Goals as goal
 pub returns-in-Call : goal.returns-in-Call
 returns-in-Call c = λ p f g t so ok hf hi h k.
     let et = sym (tag_is t h) ∙ node_tag t h ∙ sym (ap tag_no (c.tag_at-tag.ensures t h)) ∙ ap tag_no c.in-Call.is in
-    call_words_are p f g (omega arith) c.saturating_add-second.ensures c.saturating_add-third.ensures t so h k et c.word_at.ensures (omega arith) (λ x hx kx. c.function_number.ensures p f x so hf hx kx) (λ lm ln. ap (λ (n : ℕ). 12 ∷ n ∷ c.word_at.result ∷ []) (c.word.ensures lm))
+    call_words_are p f g (omega arith) c.saturating_add-second.ensures c.saturating_add-third.ensures t so h k et c.word_at.ensures (omega arith) (λ x hx kx. subst (λ y. c.function_number.result ≡ fn_no p f y) (c.name_at.ensures x hx) (c.function_number.ensures p f so hf (subst (Known p f) (sym (c.name_at.ensures x hx)) kx))) (λ lm ln. ap (λ (n : ℕ). 12 ∷ n ∷ c.word_at.result ∷ []) (c.word.ensures lm))
 
 pub returns-in-By : goal.returns-in-By
 returns-in-By c = λ p f g t so ok hf hi h k.
     let et = sym (tag_is t h) ∙ node_tag t h ∙ sym (ap tag_no (c.tag_at-tag.ensures t h)) ∙ ap tag_no c.in-By.is in
-    table_words_are p f g (omega arith) c.saturating_add-second.ensures c.saturating_add-third.ensures t so h k et c.word_at-in-By.ensures (omega arith) (λ x hx kx. c.table_number.ensures p f x so hf hx kx) (λ lm ln. ap (λ (n : ℕ). 13 ∷ n ∷ c.word_at-in-By.result ∷ []) (c.word-in-By.ensures lm))
+    table_words_are p f g (omega arith) c.saturating_add-second.ensures c.saturating_add-third.ensures t so h k et c.word_at-in-By.ensures (omega arith) (λ x hx kx. subst (λ y. c.table_number.result ≡ number as_table p f y) (c.name_at-in-By.ensures x hx) (c.table_number.ensures p f so hf (subst (Known p f) (sym (c.name_at-in-By.ensures x hx)) kx))) (λ lm ln. ap (λ (n : ℕ). 13 ∷ n ∷ c.word_at-in-By.result ∷ []) (c.word-in-By.ensures lm))
 
 pub returns-then-names_value : goal.returns-then-names_value
 returns-then-names_value c = λ p f g t so ok hf hi h k.
     let et = ap tag_no (c.tag_at-tag.ensures t h) ∙ sym (node_tag t h) ∙ tag_is t h in
     let r = c.refer.result in
-    named_words_are p f g (omega arith) c.saturating_add-second.ensures c.saturating_add-third.ensures t so ok h (sym (ap is_value_name et) ∙ sym c.if-names_value.ensures) (λ x hx. c.refer.ensures p f g x so.is hf hi hx) (λ fits. ap node_words (c.named.ensures fits) ∙ ap (λ (n : ℕ). node_words (named_by n r)) et)
+    named_words_are p f g (omega arith) c.saturating_add-second.ensures c.saturating_add-third.ensures t so ok h (sym (ap is_value_name et) ∙ sym c.if-names_value.ensures) (λ x hx. subst (λ y. r ≡ meant (scope p f (slots_of g)) y) (c.name_at-then-names_value.ensures x hx) (c.refer.ensures p f g so.is hf hi)) (λ fits. ap node_words (c.named.ensures fits) ∙ ap (λ (n : ℕ). node_words (named_by n r)) et)
 
 pub returns-else-names_value : goal.returns-else-names_value
 returns-else-names_value c = λ p f g t so ok hf hi h k.
