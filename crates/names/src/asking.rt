@@ -1,10 +1,10 @@
-// What a node of a body asks of the pile of kinds and gives to it. Nodes are told by their tags: 0 a number, 1 and 26 a variable, 7 a[i],
-// 8 len(a), 9 and 10 calls, 12 and 13 a word and an element set, 19 and 21 around a loop, 23 and 24 break and continue, 25 the end.
+// What a node of a body asks of the pile of kinds and gives to it.
 ghost use Rattle.std.specs.Prelude.{◌≡◌, List};
 ghost use Rattle.std.proofs.Math.Option.{Option};
 ghost use Rattle.language.specs.Syntax.{Name, Kind, Fn, i_fn, Param, Prog};
 ghost use Rattle.rows.specs.Has.{Has, named};
 ghost use Rattle.rows.specs.Nodes.{Node, node_row};
+ghost use Rattle.rows.specs.NodeTags.{tag_no};
 ghost use Rattle.rows.specs.Trees.{item_row, prog_row};
 ghost use Rattle.names.specs.Fold.{ctx};
 ghost use Rattle.names.specs.Kinds.{kind_or, kind_found, FindsParams};
@@ -13,7 +13,8 @@ ghost use Rattle.names.specs.Effects.{takes, gives, wants_kind, suits, stands, d
 use crate::kinds::{kind_in, params_of, params_table};
 use limits::entries::{Entries, Locals};
 use rows::kind::LocalKind;
-use rows::read::{at, name_at};
+use rows::read::{at, name_at, tag_at};
+use rows::tag::Tag;
 
 // What a node does to the pile of kinds, if it stands as it must: it asks for words and above them for these kinds of parameters, and gives a
 // kind by its number, or nothing (3).
@@ -25,93 +26,78 @@ pub struct Effect<'a> {
     pub gives: usize,
 }
 
-// How many words a node asks for, by its tag.
-fn takes_of(tag: usize) -> usize
-    ensures { result ≡ takes tag }
+// How many words a node asks for.
+fn takes_of(tag: Tag) -> usize
+    ensures { result ≡ takes (tag_no tag) }
 {
-    if (tag == 2) | (tag == 13) {
-        2
-    } else if (tag == 3)
-        | (tag == 4)
-        | (tag == 5)
-        | (tag == 6)
-        | (tag == 7)
-        | (tag == 12)
-        | (tag == 14)
-        | (tag == 15)
-        | (tag == 16)
-        | (tag == 20)
-        | (tag == 22)
-    {
-        1
-    } else {
-        0
+    match tag {
+        Tag::Bin | Tag::Store => 2,
+        Tag::And
+        | Tag::Or
+        | Tag::Join
+        | Tag::Un
+        | Tag::Idx
+        | Tag::Set
+        | Tag::Ex
+        | Tag::Out
+        | Tag::If
+        | Tag::While
+        | Tag::Ret => 1,
+        _ => 0,
     }
 }
 
-// The number of the kind that a node gives, by its tag and the kind of its name.
-fn gives_of(tag: usize, kind: usize) -> usize
-    ensures { result ≡ gives tag kind }
+// The number of the kind that a node gives, by the kind of its name.
+fn gives_of(tag: Tag, kind: usize) -> usize
+    ensures { result ≡ gives (tag_no tag) kind }
 {
-    if (tag == 1) | (tag == 26) {
-        kind
-    } else if (tag == 0)
-        | (tag == 2)
-        | (tag == 5)
-        | (tag == 6)
-        | (tag == 7)
-        | (tag == 8)
-        | (tag == 11)
-    {
-        0
-    } else {
-        3
+    match tag {
+        Tag::Var | Tag::Arg => kind,
+        Tag::Num | Tag::Bin | Tag::Join | Tag::Un | Tag::Idx | Tag::Len | Tag::In => 0,
+        _ => 3,
     }
 }
 
 // Whether a node is of those whose name has a kind.
-fn has_kind(tag: usize) -> bool
-    ensures { result ≡ wants_kind tag }
+fn has_kind(tag: Tag) -> bool
+    ensures { result ≡ wants_kind (tag_no tag) }
 {
-    (tag == 1) | (tag == 7) | (tag == 8) | (tag == 12) | (tag == 13) | (tag == 26)
+    matches!(
+        tag,
+        Tag::Var | Tag::Idx | Tag::Len | Tag::Set | Tag::Store | Tag::Arg
+    )
 }
 
 // Whether the kind of its name is as it must be.
-fn kind_suits(tag: usize, kind: usize) -> bool
-    ensures { result ≡ suits tag kind }
+fn kind_suits(tag: Tag, kind: usize) -> bool
+    ensures { result ≡ suits (tag_no tag) kind }
 {
-    if (tag == 1) | (tag == 26) {
-        kind != 3
-    } else if tag == 12 {
-        kind == 0
-    } else {
-        (kind == 1) | (kind == 2)
+    match tag {
+        Tag::Var | Tag::Arg => kind != 3,
+        Tag::Set => kind == 0,
+        _ => (kind == 1) | (kind == 2),
     }
 }
 
 // Whether a node without a name may stand where it does.
-fn may_stand(tag: usize, high: usize, depth: usize) -> bool
-    ensures { result ≡ stands tag high depth }
+fn may_stand(tag: Tag, high: usize, depth: usize) -> bool
+    ensures { result ≡ stands (tag_no tag) high depth }
 {
-    if tag == 0 {
-        high == 0
-    } else if (tag == 23) | (tag == 24) {
-        depth != 0
-    } else {
-        true
+    match tag {
+        Tag::Num => high == 0,
+        Tag::Break | Tag::Next => depth != 0,
+        _ => true,
     }
 }
 
 // In how many loops the next node stands.
-pub fn depth_past(tag: usize, depth: usize) -> usize
-    ensures { result ≡ deeper tag depth }
+pub fn depth_past(tag: Tag, depth: usize) -> usize
+    ensures { result ≡ deeper (tag_no tag) depth }
 {
-    if tag == 19 {
-        depth.saturating_add(1)
-    } else if tag == 21 {
-        depth.saturating_sub(1)
-    } else {
-        depth
+    match tag {
+        Tag::Loop => depth.saturating_add(1),
+        Tag::Again => depth.saturating_sub(1),
+        _ => depth,
     }
 }
 
@@ -156,42 +142,41 @@ fn number_of(kind: Option<LocalKind>) -> usize
 pub fn effect_of(row: &[u32], file: usize, item: usize, node: usize, depth: usize) -> Effect
     ensures { (p : Prog) (f : Name) (g : Fn) (t : Node) → row.now ≡ prog_row p → Has row.now file (named f) → Has row.now item (item_row (i_fn g)) → Has row.now node (node_row t) → Does row.now (ctx p f g) depth t result }
 {
-    let tag = at(row, node);
+    let tag = tag_at(row, node);
     let second = node.saturating_add(1);
     let third = node.saturating_add(2);
-    if tag == 9 {
-        return call_with(
+    match tag {
+        Tag::Call => call_with(
             row,
             params_of(row, file, item, name_at(row, third)),
             at(row, second),
             0,
-        );
-    }
-    if tag == 10 {
-        return call_with(
+        ),
+        Tag::By => call_with(
             row,
             params_table(row, file, item, name_at(row, third)),
             at(row, second),
             1,
-        );
-    }
-    let params = Entries::new(row, 0, 0);
-    let words = takes_of(tag);
-    if has_kind(tag) {
-        let kind = number_of(kind_in(row, file, item, name_at(row, second)));
-        return Effect {
-            ok: kind_suits(tag, kind),
-            words,
-            params,
-            gives: gives_of(tag, kind),
-        };
-    }
-    let high = at(row, third);
-    let gives = gives_of(tag, 3);
-    Effect {
-        ok: may_stand(tag, high, depth),
-        words,
-        params,
-        gives,
+        ),
+        _ => {
+            let params = Entries::new(row, 0, 0);
+            let words = takes_of(tag);
+            if has_kind(tag) {
+                let kind = number_of(kind_in(row, file, item, name_at(row, second)));
+                Effect {
+                    ok: kind_suits(tag, kind),
+                    words,
+                    params,
+                    gives: gives_of(tag, kind),
+                }
+            } else {
+                Effect {
+                    ok: may_stand(tag, at(row, third), depth),
+                    words,
+                    params,
+                    gives: gives_of(tag, 3),
+                }
+            }
+        }
     }
 }

@@ -12,7 +12,7 @@ use crate::asking::{depth_past, effect_of};
 use crate::pile::follow;
 use limits::head::body_of;
 use limits::nodes::Body;
-use rows::read::at;
+use rows::read::tag_at;
 
 // What the node at a place leaves of the pile, in a function that is an item of a file.
 fn check_node(
@@ -44,7 +44,7 @@ pub fn check_body(row: &[u32], file: usize, item: usize, pile: &mut [u32]) -> bo
             Some(left) => len = left,
             None => return false,
         }
-        depth = depth_past(at(row, node), depth);
+        depth = depth_past(tag_at(row, node), depth);
     }
     true
 }

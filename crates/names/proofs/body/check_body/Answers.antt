@@ -1,6 +1,8 @@
 -- `check_body`: node by node.
 use Rattle.std.proofs.Common.{sym, ap, ◌∙◌, subst, arith}
 use Rattle.rows.specs.Nodes.{nodes_b}
+use Rattle.rows.specs.NodeTags.{tag_no}
+use Rattle.rows.proofs.NodeRows.{node_tag}
 use Rattle.limits.specs.declared.nodes.Body.{Body}
 use Rattle.limits.specs.Body.{NodesLeft}
 use Rattle.limits.proofs.BodyLaws.{closed_body}
@@ -25,7 +27,7 @@ pub loop-node-preserved : goal.loop-node-preserved
 loop-node-preserved c =
     let i = c.loop-node.invariant in
     let grows = c.in-Some-check_node.ensures.grows in
-    let deep = deeper-le c.at.result c.loop-node.depth in
+    let deep = deeper-le (tag_no c.tag_at.result) c.loop-node.depth in
     let n = (c.in-Some.ensures.goes.on tt).2 in
     let i0 = i.0 in
     let i1 = i.1 in
@@ -36,7 +38,7 @@ loop-node-preserved c =
       omega (arith, c.depth_past-depth.ensures),
       λ p f g e hf hi.
           rest_next NodesLeft (i.3 p f g e hf hi) c.in-Some.ensures.steps
-          (λ t ts h r v. checking_more t ts v (omega arith) (c.at.ensures.is ∙ tag_is t h) (λ st q. c.in-Some-check_node.ensures.leaves p f g e hf hi t st h q) c.depth_past-depth.ensures),
+          (λ t ts h r v. checking_more t ts v (omega arith) (ap tag_no (c.tag_at.ensures t h) ∙ sym (node_tag t h) ∙ tag_is t h) (λ st q. c.in-Some-check_node.ensures.leaves p f g e hf hi t st h q) c.depth_past-depth.ensures),
     )
 
 pub returns-in-None-check_node : goal.returns-in-None-check_node
