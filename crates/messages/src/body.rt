@@ -34,7 +34,7 @@ impl Reader {
             leaving: self
                 .leaving
                 .saturating_add(usize::from(matches!(tag, Tag::Break | Tag::Next))),
-            depth: depth_past(at(row, node), self.depth),
+            depth: depth_past(tag, self.depth),
             len,
         }
     }

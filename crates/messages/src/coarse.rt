@@ -59,7 +59,7 @@ fn body_fault(whole: &[u8], text: &[u8], function: Function) -> Located<Fault> {
             };
             return locate(whole, place, fault);
         }
-        depth = depth_past(at(row, node), depth);
+        depth = depth_past(tag_at(row, node), depth);
     }
     locate(whole, text, Fault::ArgumentKind)
 }

@@ -50,7 +50,10 @@ pub fn resolved_node(row: &[u32], file: usize, item: usize, node: usize) -> Reso
             word(function_number(row, file, name_at(row, third))),
             word_at(row, second),
         ),
-        Tag::By => Resolved::By(word(table_number(row, file, name_at(row, third))), word_at(row, second)),
+        Tag::By => Resolved::By(
+            word(table_number(row, file, name_at(row, third))),
+            word_at(row, second),
+        ),
         _ => if names_value(tag) {
             named(tag, refer(row, file, item, name_at(row, second)))
         } else {

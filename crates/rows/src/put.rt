@@ -24,22 +24,6 @@ impl Row<'_> {
         }
     }
 
-    pub fn put2(&mut self, a: u32, b: u32)
-        requires { self.old.len + 2 ≤ length self.old.words.now }
-        ensures { Wrote self.old self.new (a ∷ b ∷ []) }
-    {
-        self.put(a);
-        self.put(b);
-    }
-
-    pub fn put3(&mut self, a: u32, b: u32, c: u32)
-        requires { self.old.len + 3 ≤ length self.old.words.now }
-        ensures { Wrote self.old self.new (a ∷ b ∷ c ∷ []) }
-    {
-        self.put2(a, b);
-        self.put(c);
-    }
-
     // A name, behind its length.
     pub fn put_name(&mut self, w: &[u8])
         requires room { self.old.len + (length w.now + 1) ≤ length self.old.words.now }
@@ -67,22 +51,6 @@ impl Row<'_> {
         for word in words {
             self.push(*word);
         }
-    }
-
-    pub fn push3(&mut self, a: u32, b: u32, c: u32)
-        ensures { Pushed self.old self.new (a ∷ b ∷ c ∷ []) }
-    {
-        self.push(a);
-        self.push(b);
-        self.push(c);
-    }
-
-    pub fn push5(&mut self, a: u32, b: u32, c: u32, d: u32, e: u32)
-        ensures { Pushed self.old self.new (a ∷ b ∷ c ∷ d ∷ e ∷ []) }
-    {
-        self.push3(a, b, c);
-        self.push(d);
-        self.push(e);
     }
 
     // Another word in a place that was written.
