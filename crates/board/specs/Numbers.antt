@@ -1,5 +1,5 @@
 -- Decimal numbers below 2^32 in text: one alone, or many with blanks between them.
-use Rattle.std.specs.Prelude.{ℕ, ◌+◌, ◌-◌, ◌*◌, Bool, true, ◌&&◌, ◌||◌, List, [], ◌∷◌, ◌++◌, Some, None, Option, ◌==◌, nat_le, nat_lt}
+use Rattle.std.specs.Prelude.{ℕ, ◌+◌, ◌-◌, ◌*◌, Bool, true, ◌&&◌, ◌||◌, List, [], ◌∷◌, Some, None, Option, ◌==◌, nat_le, nat_lt}
 use Rattle.language.specs.Syntax.{pick}
 
 abbrev pub digit : ℕ → Bool
@@ -46,8 +46,3 @@ and_then (Some n) f = f n
 abbrev pub numbers : Option ℕ → List ℕ → Option (List ℕ)
 numbers p [] = before p (Some [])
 numbers p (b ∷ bs) = pick (blank b) (before p (numbers None bs)) (and_then (more (so_far p) b) (λ n. numbers (Some n) bs))
-
--- the numbers that were read, with one that ends
-abbrev pub ended : List ℕ → Option ℕ → List ℕ
-ended ns None = ns
-ended ns (Some n) = ns ++ (n ∷ [])

@@ -1,6 +1,6 @@
 // Decimal numbers in text: one for an option, many for the words that there are to read.
-ghost use Rattle.std.specs.Prelude.{◌≡◌, ℕ, ◌+◌, ◌-◌, ◌*◌, ◌<◌, ◌≤◌, IfOk, Some, None, MatchOption, OnOk};
-ghost use Rattle.board.specs.Numbers.{number, blank, more, ended, numbers as listed};
+ghost use Rattle.std.specs.Prelude.{◌≡◌, ℕ, ◌+◌, ◌-◌, ◌*◌, ◌<◌, ◌≤◌, IfOk, Some, None, MatchOption};
+ghost use Rattle.board.specs.Numbers.{number, blank, more, numbers as listed};
 
 use std::alloc::{AllocError, Global};
 
@@ -32,34 +32,20 @@ fn is_blank(b: u8) -> bool
     matches!(b, b' ' | b'\t' | b'\n' | b'\r')
 }
 
-// Keeps the number that ends here, if one was begun.
-fn keep(words: &mut Vec<u32>, begun: Option<u32>) -> Result<(), AllocError>
-    ensures { OnOk result (words.new.items ≡ ended words.old.items begun) }
-{
-    if let Some(n) = begun {
-        words.push(n)?;
-    }
-    Ok(())
-}
-
 // The numbers of a text with blanks and ends of lines between them; none if anything else stands there.
 pub fn read_words(heap: Global, text: &[u8]) -> Result<Option<Vec<u32>>, AllocError>
     ensures { IfOk result (λ o. MatchOption o (listed None text.now ≡ None) (λ v. listed None text.now ≡ Some v.items)) }
 {
     let mut words = Vec::new(heap);
-    let mut begun: Option<u32> = None;
-    for b in text {
-        if is_blank(*b) {
-            keep(&mut words, begun)?;
-            begun = None;
-        } else {
-            let Some(n) = push_digit(begun.unwrap_or(0), *b) else {
-                return Ok(None);
-            };
-            begun = Some(n);
+    for piece in text.split(|b| is_blank(*b)) {
+        if piece.is_empty() {
+            continue;
         }
+        let Some(word) = parse_number(piece) else {
+            return Ok(None);
+        };
+        words.push(word)?;
     }
-    keep(&mut words, begun)?;
     Ok(Some(words))
 }
 
