@@ -15,7 +15,7 @@ pub ten_ten : (i v : ℕ) → i ≤ 10 → v < 10 ^ i → v < 10000000000
 ten_ten i v h k = let p : 10 ^ i ≤ 10 ^ 10 = pow-le-pow_right (lit< tt) h in omega arith
 
 -- what `==` says of two words
-same-pointwise : (x w : Name) → same x w ≡ pointwise nat_eq x w
+pub same-pointwise : (x w : Name) → same x w ≡ pointwise nat_eq x w
 same-pointwise [] [] = refl
 same-pointwise [] (b ∷ w) = refl
 same-pointwise (a ∷ x) [] = refl

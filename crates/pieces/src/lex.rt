@@ -14,7 +14,7 @@ pub fn is_word_byte(c: u8) -> bool
 fn is_blank(c: u8) -> bool
     ensures { result ≡ blank c }
 {
-    matches!(c, b' ' | b'\n' | b'\r' | b'\t')
+    c == b' ' || c == b'\n' || c == b'\r' || c == b'\t'
 }
 
 // Whether a second byte may follow as part of the sign.
@@ -62,7 +62,7 @@ fn word_len(text: &[u8]) -> usize
     ensures within { result ≤ length text.now }
     ensures is { pieces (word []) text.now ≡ take result text.now ∷ pieces gap (drop result text.now) }
 {
-    text.iter().take_while(|c| is_word_byte(**c)).count()
+    1 + text[1..].iter().take_while(|c| is_word_byte(**c)).count()
 }
 
 // How many bytes stand before the first quote, if there is one.

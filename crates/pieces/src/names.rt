@@ -12,7 +12,7 @@ use super::words::RESERVED;
 fn is_reserved(w: &[u8]) -> bool
     ensures { result ≡ listed w.now reserved }
 {
-    RESERVED.contains(&w)
+    RESERVED.iter().any(|word| *word == w)
 }
 
 fn all_word_bytes(w: &[u8]) -> bool
