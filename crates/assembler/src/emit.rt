@@ -12,15 +12,6 @@ use crate::register::STACK;
 use processor::instr::{Imm, Instr};
 use processor::lay_out_parts;
 
-impl FramePlace {
-    // How far the word is from register 2.
-    fn offset(self) -> u32
-        ensures { result ≡ off (suc self.0) }
-    {
-        self.0.wrapping_mul(4).wrapping_add(0xffff_f804)
-    }
-}
-
 // A word of the function to a register.
 pub fn load(register: u32, place: FramePlace) -> Instr
     requires { register < 32 }

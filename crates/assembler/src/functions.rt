@@ -40,6 +40,7 @@ impl Code<'_> {
     pub fn functions(&mut self, program: Program, tables: Tables)
         ensures { (m : MProg) (fs : List MFn) → Tabled m program.entry.words tables.entry.entries.now → FunctionsAre program.entry.steps.now program.entry.count fs → Each (FnFits m) fs → Has tables.entry.places.now 0 (all_starts m fs self.old.here) → Put self.old self.new (reals self.old.here (funs_row (entry_in m) m fs self.old.here)) }
     {
+        // functions have different lengths: there are no chunks to go over
         let mut rest = program.steps;
         let mut first = 0usize;
         for i in 0..program.count {

@@ -17,6 +17,9 @@ use rows::row::Row;
 // The word that an image's row begins with.
 const MARK: u32 = 19525;
 
+// How many words it begins with: the mark, how much code there is, how many words at the top, and no arrays.
+pub const HEADER: usize = 5;
+
 // No jump reaches over more words.
 const REACH: u32 = 262144;
 
@@ -56,6 +59,6 @@ pub fn write_image(program: Program, tables: Tables, size: u32, image: &mut [u32
     requires room { 5 + size ≤ length image.old }
     ensures { (m : MProg) → Given m program.entry → Ready m tables.entry → size ≡ length (row_of m program.entry.main) → image.new ≡ (19525 ∷ size ∷ program.entry.words ∷ 0 ∷ 0 ∷ words_of 0 (row_of m program.entry.main)) ++ drop (5 + size) image.old }
 {
-    image[0..5].copy_from_slice(&[MARK, size, program.words, 0, 0]);
-    write_code(program, tables, &mut image[5..5 + size as usize]);
+    image[0..HEADER].copy_from_slice(&[MARK, size, program.words, 0, 0]);
+    write_code(program, tables, &mut image[HEADER..HEADER + size as usize]);
 }

@@ -17,7 +17,6 @@ mod frame;
 mod function;
 mod functions;
 mod imaging;
-mod look;
 mod measure;
 mod operator;
 mod place;
@@ -26,7 +25,7 @@ mod register;
 mod sizes;
 mod stepping;
 
-use imaging::{measure, write_image};
+use imaging::{HEADER, measure, write_image};
 use program::{Program, Tables};
 
 // The image of a program's steps, if there is room for it: how many words it has. `program.steps` is the row of its functions but for function 0.
@@ -34,13 +33,9 @@ use program::{Program, Tables};
 pub fn assemble(program: Program, work: &mut [u32], image: &mut [u32]) -> Option<usize>
     ensures { (m : MProg) → Given m program.entry → steps_in (others m.funs) + length m.funs ≤ length work.old → Assembled (row (image_of m (code_words m program.entry.main))) image.old image.new result }
 {
-    let functions = program.count as usize + 1;
-    if work.len() < functions {
-        return None;
-    }
-    let (entries, places) = work.split_at_mut(functions);
+    let (entries, places) = work.split_at_mut_checked(program.count as usize + 1)?;
     let size = measure(program, entries, places)?;
-    let whole = 5 + size as usize;
+    let whole = HEADER + size as usize;
     if image.len() < whole {
         return None;
     }

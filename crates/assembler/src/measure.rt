@@ -42,6 +42,7 @@ pub fn measure_functions(program: Program, entries: &mut Row, places: &mut Row) 
 {
     // no code is function 0's
     entries.push(0);
+    // functions have different lengths: there are no chunks to go over
     let mut rest = program.steps;
     let mut place = BEGINNING;
     for i in 0..program.count {

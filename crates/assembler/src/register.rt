@@ -1,4 +1,4 @@
-// Registers, by what they are for.
+// Registers, by what they are for. Numbers, no enum: the processor's instructions take numbers, and arguments are counted from one on.
 
 // where a function returns to
 pub const RETURN: u32 = 1;

@@ -50,11 +50,8 @@ fn steps_row(resolved: &[u32], pile: &mut [u32], words: &mut [u32]) -> usize
 fn generate(resolved: &[u32], work: &mut [u32], image: &mut [u32]) -> Option<usize>
     ensures { (t : List ℕ) (p : Prog) → Reads t p → stage p ≡ 0 → resolved.now ≡ resolved_words (resolve_prog p) → 10 * length t + 1023 ≤ length work.old → Assembled (row (compile p)) image.old image.new result }
 {
-    if work.len() < PILE {
-        return None;
-    }
     let [words, main, count] = *resolved.first_chunk::<3>()?;
-    let (pile, rest) = work.split_at_mut(PILE);
+    let (pile, rest) = work.split_at_mut_checked(PILE)?;
     let n = steps_row(resolved, pile, rest);
     let (steps, tables) = rest.split_at_mut(n);
     let program = Program {

@@ -30,6 +30,11 @@ pub enum Step {
     Ret(u32),
 }
 
+// The tags of the two steps whose third word is a target.
+pub const JUMP: u32 = 7;
+
+pub const JUMP_ZERO: u32 = 8;
+
 // A tag that no step of stage 0 has.
 #[derive(Clone, Copy, Debug, PartialEq, Eq)]
 pub struct UnknownStep(pub u32);
@@ -54,8 +59,8 @@ impl From<Step> for [u32; 5] {
             Step::Flag(d, a) => [4, d, a, 0, 0],
             Step::GetWord(d, i) => [5, d, i, 0, 0],
             Step::SetWord(i, a) => [6, i, a, 0, 0],
-            Step::Jump(t) => [7, 0, t, 0, 0],
-            Step::JumpZero(a, t) => [8, a, t, 0, 0],
+            Step::Jump(t) => [JUMP, 0, t, 0, 0],
+            Step::JumpZero(a, t) => [JUMP_ZERO, a, t, 0, 0],
             Step::Call(d, f, k, n) => [9, d, f, k, n],
             Step::Out(a) => [10, a, 0, 0, 0],
             Step::Ret(a) => [11, a, 0, 0, 0],
@@ -78,8 +83,8 @@ impl TryFrom<[u32; 5]> for Step {
             4 => Ok(Step::Flag(w, x)),
             5 => Ok(Step::GetWord(w, x)),
             6 => Ok(Step::SetWord(w, x)),
-            7 => Ok(Step::Jump(x)),
-            8 => Ok(Step::JumpZero(w, x)),
+            JUMP => Ok(Step::Jump(x)),
+            JUMP_ZERO => Ok(Step::JumpZero(w, x)),
             9 => Ok(Step::Call(w, x, y, z)),
             10 => Ok(Step::Out(w)),
             11 => Ok(Step::Ret(w)),

@@ -28,6 +28,7 @@ pub fn write_steps(resolved: &[u32], pile: &mut [u32], out: &mut Row)
     let Some((&[_, _, count], mut rest)) = resolved.split_first_chunk::<3>() else {
         return;
     };
+    // functions have different lengths: there are no chunks to go over
     for i in 0..count {
         rest = write_routine(rest, pile, out);
     }

@@ -55,6 +55,7 @@ impl Writer<'_, '_> {
     {
         let top = self.height as usize;
         self.height = self.height.saturating_add(1);
+        // by its place: of a list that was lent by `get_mut` from a field nothing is known
         if top < self.pile.len() {
             self.pile[top] = word;
         }

@@ -17,6 +17,8 @@ use Rattle.chain.proofs.generate.Goals as goal
 pub returns : goal.returns
 returns c = λ t p reads core e room.
     let long = steps-short t p reads in
+    let front = c.in_ok-work.ensures.cases.1 in
+    let back = c.in_ok-work.ensures.cases.4 in
     let suits : Suits c.args.resolved.now (resolve_prog p) _ = record { is = e; core = core-nodes t p reads core; piles = pile-wide t p _ reads (omega arith); small = bases_low t p _ reads core (omega arith); short = resolved-small t p _ reads e } in
     let made = c.steps_row-n.ensures.is (resolve_prog p) suits (omega (arith, ap length (made-right p), long, room)) ∙ made-right p in
     let steps = front-is _ c.split_at_mut-steps.ensures.value c.split_at_mut-steps.ensures.front_len made in
