@@ -163,7 +163,8 @@ fn arg<'a>(text: &'a [u8], out: &mut Row) -> Result<&'a [u8], Refused>
     Ok(rest)
 }
 
-// Behind an argument: the others, up to the bracket and with it; and how many.
+// Behind an argument: the others, up to the bracket and with it; and how many. Not by the parser's `list_of`, which writes an
+// element when the sign behind it is read: an argument is written as it is read, by functions that call this one.
 #[cycle(expressions)]
 fn more_args<'a>(text: &'a [u8], out: &mut Row) -> Result<(u32, &'a [u8]), Refused>
     requires ready { Ready 0 text.now out.old }

@@ -59,7 +59,7 @@ impl<'a> Element<'a> for Names {
 
 // Numbers, up to a semicolon.
 #[derive(Clone, Copy)]
-pub struct Numbers;
+struct Numbers;
 
 impl<'a> Element<'a> for Numbers {
     type Value = u64;

@@ -80,7 +80,7 @@ pub fn skip_gap(text: &[u8]) -> &[u8]
     &text[n..]
 }
 
-// The first piece of a text, and what is left behind it.
+// The first piece of a text, and what is left behind it: a pair that callers take apart at once, as all functions here give.
 pub fn next_piece<'a>(text: &'a [u8]) -> (Piece<'a>, &'a [u8])
     ensures { Cut text.now result.0 result.1.now }
 {

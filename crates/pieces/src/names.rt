@@ -8,7 +8,7 @@ ghost use Rattle.grammar.specs.Parse.{num_of};
 use super::lex::is_word_byte;
 use super::words::RESERVED;
 
-// Whether a word has a meaning of its own.
+// Whether a word has a meaning of its own. Not by `contains`: with it a text takes a tenth more time to read.
 fn is_reserved(w: &[u8]) -> bool
     ensures { result ≡ listed w.now reserved }
 {
