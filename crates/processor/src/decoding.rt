@@ -10,7 +10,7 @@ use super::encoding::{
 };
 use super::instr::{Alu, Cond, Imm, Instr, KeptFree, Prod, Shift};
 
-// `n` bits with a sign, as 32.
+// `n` bits with a sign, as 32; the library has no integers of such widths.
 fn extend(x: u32, n: u32) -> u32
     requires { (0 < n) × ((n < 32) × (x < 2 ^ n)) }
     ensures { result ≡ signed n x }

@@ -114,24 +114,20 @@ impl Cpu {
             }
             Instr::Lw(rd, r1, x) => {
                 let a = self.get(r1).wrapping_add(x);
-                match locate(mem.len(), a) {
-                    Some(k) => {
-                        self.finish(rd, mem[k]);
-                        Event::Goes
-                    }
-                    None => Event::Halts(Halt::Fault),
-                }
+                let Some(k) = locate(mem.len(), a) else {
+                    return Event::Halts(Halt::Fault);
+                };
+                self.finish(rd, mem[k]);
+                Event::Goes
             }
             Instr::Sw(r1, r2, x) => {
                 let a = self.get(r1).wrapping_add(x);
-                match locate(mem.len(), a) {
-                    Some(k) => {
-                        mem[k] = self.get(r2);
-                        self.pc = self.pc.wrapping_add(4);
-                        Event::Goes
-                    }
-                    None => Event::Halts(Halt::Fault),
-                }
+                let Some(k) = locate(mem.len(), a) else {
+                    return Event::Halts(Halt::Fault);
+                };
+                mem[k] = self.get(r2);
+                self.pc = self.pc.wrapping_add(4);
+                Event::Goes
             }
             Instr::OpImm(f, rd, r1, x) => {
                 let y = Alu::from(f).apply(self.get(r1), x);
@@ -153,6 +149,7 @@ impl Cpu {
                 self.finish(rd, y);
                 Event::Goes
             }
+            // calls by the numbers that images put into register 17
             Instr::Ecall => match self.get(17) {
                 0 => Event::Halts(Halt::End(self.get(10))),
                 1 => {

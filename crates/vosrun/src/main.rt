@@ -91,9 +91,7 @@ fn print_words(rt: &HostRuntime, words: &[u32]) -> io::Result<()> {
     Ok(())
 }
 
-// Runs to the end or until the steps are used up, and prints words as they come. Not inlined, so that the processor's loop has
-// the registers to itself.
-#[inline(never)]
+// Runs to the end or until the steps are used up, and prints words as they come.
 fn follow(
     rt: &HostRuntime,
     cpu: &mut Cpu,
