@@ -1,5 +1,5 @@
 -- What the layers answer is what the definition `built` gives, which keeps the promise of `build`.
-use Rattle.std.proofs.Common.{◌≡◌, ℕ, Option, Some, None, Result, Ok, Err, MatchResult, IsErrAnd, ◌+◌, ◌*◌, ◌<◌, ◌≤◌, Bool, List, ◌++◌, length, drop, sym, ap, ◌∙◌, subst, arith, le-ltb, lt-ltb, le-leb}
+use Rattle.std.proofs.Common.{◌≡◌, ℕ, Option, Some, None, Result, Ok, Err, ◌+◌, ◌*◌, ◌<◌, ◌≤◌, Bool, List, ◌++◌, length, drop, sym, ap, ◌∙◌, subst, arith, le-ltb, lt-ltb, le-leb}
 use mathlib.Core.Option.{some, none}
 use borrow.Author.Tests.{lt-leb}
 use Rattle.language.specs.Syntax.{pick, Prog, stage}
@@ -8,12 +8,11 @@ use Rattle.image.specs.Image.{row}
 use Rattle.lower.specs.declared.Unbuilt.{Unbuilt}
 use Rattle.lower.specs.declared.Unbuilt.TheVariants.{ImageFull, NotYet, NoProgram, Few}
 use Rattle.std.specs.Option.{ok_or}
-use Rattle.front.specs.declared.Tree.{Tree}
 use Rattle.front.specs.declared.Unreadable.{Unreadable}
 use Rattle.front.specs.declared.Unreadable.TheVariants as unread
 use Rattle.front.specs.Answers.{ReadSays}
 use Rattle.assembler.specs.Assembled.{Assembled}
-use Rattle.chain.specs.Refusals.{unbuilt_of}
+use Rattle.front.specs.Refusals.{unbuilt_of}
 use Rattle.lower.specs.Lower.{compile}
 use Rattle.lower.specs.Promise.{BuiltPost}
 use Rattle.lower.specs.Build.{Outcome, refused, written, of_text, built}
@@ -53,27 +52,9 @@ full_promised {t} {o} {o'} {w} p h e k l i = by-built (built-core t o w p h e k 
 pub done_promised : {t o o' : List ℕ} {w n : ℕ} (p : Prog) → 65536 + 16 * length t ≤ w → reading t ≡ some p → stage p ≤ 0 → n ≡ length (row (compile p)) → length (row (compile p)) ≤ length o → o' ≡ row (compile p) ++ drop n o → BuiltPost t w o o' (Ok n)
 done_promised {t} {o} {o'} {w} {n} p h e k l m i = by-built (built-core t o w p h e k ∙ done (row (compile p)) o o' n l m i)
 
--- a refusal of the reading half, and what it becomes
-abbrev pub Turned : Result Tree Unreadable → Result Tree Unbuilt → Type 0
-Turned r s = MatchResult r (λ x. s ≡ Ok x) (λ e. IsErrAnd s (λ d. d ≡ unbuilt_of e))
-
-not-err : {s : Result Tree Unbuilt} {x : Tree} (u : Unbuilt) → s ≡ Ok x → IsErrAnd s (λ d. d ≡ u) → ⊥
-not-err {s} {x} u e h = subst (λ (r : Result Tree Unbuilt). IsErrAnd r (λ d. d ≡ u)) e h
-
-not-ok : {s : Result Tree Unbuilt} {x : Tree} {d : Unbuilt} → s ≡ Ok x → s ≡ Err d → ⊥
-not-ok {s} {x} {d} e f = subst (λ (r : Result Tree Unbuilt). MatchResult r (λ _. ⊥) (λ _. Unit {0})) (sym f ∙ e) tt
-
-is-err : {s : Result Tree Unbuilt} {d : Unbuilt} (u : Unbuilt) → s ≡ Err d → IsErrAnd s (λ b. b ≡ u) → d ≡ u
-is-err {s} {d} u e h = subst (λ (r : Result Tree Unbuilt). IsErrAnd r (λ b. b ≡ u)) e h
-
-pub refused_promised : {t o : List ℕ} {w : ℕ} (r : Result Tree Unreadable) {s : Result Tree Unbuilt} {d : Unbuilt} → ReadSays t w r → Turned r s → s ≡ Err d → BuiltPost t w o o (Err d)
-refused_promised (Ok x) h m e = absurd (not-ok m e)
-refused_promised {t} {o} {w} (Err unread.Few) h m e = subst (λ (d : Unbuilt). BuiltPost t w o o (Err d)) (sym (is-err Few e m)) (few_promised h)
-refused_promised {t} {o} {w} (Err unread.NoProgram) h m e = subst (λ (d : Unbuilt). BuiltPost t w o o (Err d)) (sym (is-err NoProgram e m)) (none_promised h.0 h.1)
-
-pub read_is : {t : List ℕ} {w : ℕ} (r : Result Tree Unreadable) {s : Result Tree Unbuilt} {x : Tree} → ReadSays t w r → Turned r s → s ≡ Ok x → ReadSays t w (Ok x)
-read_is {t} {w} (Ok y) {s} {x} h m e = let i : y ≡ x = cc in subst (λ (z : Tree). ReadSays t w (Ok z)) i h
-read_is (Err d) h m e = absurd (not-err (unbuilt_of d) e m)
+pub refused_promised : {t o : List ℕ} {w : ℕ} (e : Unreadable) → ReadSays t w (Err e) → BuiltPost t w o o (Err (unbuilt_of e))
+refused_promised unread.Few h = few_promised h
+refused_promised unread.NoProgram h = none_promised h.0 h.1
 
 pub generated_promised : {t o o' : List ℕ} {w : ℕ} (r : Option ℕ) (p : Prog) → 65536 + 16 * length t ≤ w → reading t ≡ some p → stage p ≤ 0 → Assembled (row (compile p)) o o' r → BuiltPost t w o o' (ok_or r ImageFull)
 generated_promised (Some n) p h e k made = done_promised p h e k made.0 made.1 made.2

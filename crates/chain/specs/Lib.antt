@@ -1,2 +1,0 @@
--- Refusals of the reading half, as those of a build.
-pub mod Refusals

@@ -10,11 +10,10 @@ ghost use Rattle.lower.specs.Promise.{BuiltPost};
 ghost use Rattle.generator.specs.ResolvedRows.{ResolvedProg, resolved_words, resolve_prog};
 ghost use Rattle.stepper.specs.Bodies.{Suits, steps_row as row_of_steps};
 ghost use Rattle.assembler.specs.Assembled.{Assembled};
-ghost use Rattle.chain.specs.Refusals.{unbuilt_of};
 
 use assembler::assemble;
 use assembler::program::Program;
-use front::{Unreadable, read};
+use front::read;
 use lower::Unbuilt;
 use rows::row::Row;
 use stepper::write_steps;
@@ -24,16 +23,6 @@ pub const LANDED: u32 = 0;
 
 // Words for the values that wait while a function's steps are written: no function of a text has more.
 const PILE: usize = 1022;
-
-// Why no image was built of a text that no program was read from. No `From`: neither type is of this crate.
-fn unread(refusal: Unreadable) -> Unbuilt
-    ensures { result ≡ unbuilt_of refusal }
-{
-    match refusal {
-        Unreadable::Few => Unbuilt::Few,
-        Unreadable::NoProgram => Unbuilt::NoProgram,
-    }
-}
 
 // Writes the row of a program's steps, if there is room, and says how many words were written.
 fn steps_row(resolved: &[u32], pile: &mut [u32], words: &mut [u32]) -> usize
@@ -67,7 +56,7 @@ fn generate(resolved: &[u32], work: &mut [u32], image: &mut [u32]) -> Option<usi
 pub fn build(text: &[u8], image: &mut [u32], work: &mut [u32]) -> Result<usize, Unbuilt>
     ensures { BuiltPost text.now (length work.old) image.old image.new result }
 {
-    let tree = read(text, work).map_err(unread)?;
+    let tree = read(text, work)?;
     if tree.stage > LANDED {
         return Err(Unbuilt::NotYet(tree.stage));
     }

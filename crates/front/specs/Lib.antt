@@ -1,2 +1,3 @@
 -- What the reading half of the compiler answers.
 pub mod Answers
+pub mod Refusals

@@ -7,11 +7,13 @@ ghost use Rattle.language.specs.Checks.{ok};
 ghost use Rattle.rows.specs.Trees.{prog_row};
 ghost use Rattle.generator.specs.ResolvedRows.{resolved_words, resolve_prog};
 ghost use Rattle.parser.specs.Programs.{Unread};
+ghost use Rattle.front.specs.Refusals.{unbuilt_of};
 ghost use Rattle.front.specs.Answers.{work_words, IsParsed, ReadSays, Begins};
 
 mod parsed;
 
 use limits::{fits, stage};
+use lower::Unbuilt;
 use names::items::check_names;
 pub use parsed::Parsed;
 use parser::parse;
@@ -47,6 +49,17 @@ impl fmt::Display for Unreadable {
 }
 
 impl Error for Unreadable {}
+
+impl From<Unreadable> for Unbuilt {
+    ghost from_gives = { λ refusal unbuilt. unbuilt ≡ unbuilt_of refusal };
+
+    fn from(refusal: Unreadable) -> Unbuilt {
+        match refusal {
+            Unreadable::Few => Unbuilt::Few,
+            Unreadable::NoProgram => Unbuilt::NoProgram,
+        }
+    }
+}
 
 // Whether the program of a row passes all checks. The pile has room for as many words as the row.
 fn is_checked(row: &[u32], pile: &mut [u32]) -> bool

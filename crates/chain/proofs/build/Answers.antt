@@ -4,23 +4,23 @@ use Rattle.std.proofs.lemmas.Result.{err_from_is_err_and}
 use Rattle.grammar.proofs.Reading.{reading-sound}
 use Rattle.lower.specs.Promise.{BuiltPost}
 use Rattle.chain.proofs.Layers.{text_short}
-use Rattle.chain.proofs.Promised.{later_promised, refused_promised, read_is, generated_promised}
+use Rattle.chain.proofs.Promised.{later_promised, refused_promised, generated_promised}
 use Rattle.chain.proofs.build.Goals as goal
 
 pub returns-in_err-tree : goal.returns-in_err-tree
 returns-in_err-tree c =
     let p = err_from_is_err_and c.from_residual.result c.from_residual.ensures.1 in
-    rw (p.1, p.2) (refused_promised c.read.result c.read.ensures c.map_err.ensures.cases c.in_err-tree.was)
+    rw (p.1, p.2) (refused_promised _ c.in_err-tree.ensures)
 
 pub returns-then-tree-gt-LANDED : goal.returns-then-tree-gt-LANDED
 returns-then-tree-gt-LANDED c =
-    let h = read_is c.read.result c.read.ensures c.map_err.ensures.cases c.in_ok-tree.was in
+    let h = c.in_ok-tree.ensures in
     let is = h.1 in
     later_promised is.program h.0 is.read_as is.stage_is (omega arith)
 
 pub returns : goal.returns
 returns c =
-    let h = read_is c.read.result c.read.ensures c.map_err.ensures.cases c.in_ok-tree.was in
+    let h = c.in_ok-tree.ensures in
     let is = h.1 in
     let core = let z : Rattle.language.specs.Syntax.stage is.program ≡ 0 = omega (arith, is.stage_is) in z in
     let reads = reading-sound _ _ is.read_as in
