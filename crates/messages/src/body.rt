@@ -82,7 +82,11 @@ impl Search<'_> {
             if reader.len >= self.pile.len() {
                 return Ok(());
             }
-            let effect = effect_of(row, function.file, function.item, node, reader.depth);
+            // what its function's check has passed does something
+            let Some(effect) = effect_of(row, function.file, function.item, node, reader.depth)
+            else {
+                return Ok(());
+            };
             let Some(len) = follow(row, effect, self.pile, reader.len) else {
                 let unlike = unlike_argument(row, effect.params, &self.pile[..reader.len]);
                 let name = from_name(self.text, text, reader.name);

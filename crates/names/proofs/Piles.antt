@@ -1,6 +1,11 @@
 -- Kinds of the pile compared one by one, and what a node leaves of the pile.
 use Rattle.std.proofs.Common.{◌≡◌, ℕ, ◌+◌, ◌-◌, ◌<◌, ◌≤◌, min, Bool, true, false, ◌&&◌, eqb, leb, List, [], ◌∷◌, ◌++◌, length, get_or, take, drop, set, replicate, sym, refl, ap, ◌∙◌, subst, ap₂, arith, length-append, length-drop, length-set, take-append-drop, length-take, eq-eqb, ne_eqb, le-leb}
 use mathlib.Core.Option.{Option, some, none}
+use Rattle.std.specs.Prelude.{Some, None}
+use Rattle.std.specs.declared.option.Option as std
+use Rattle.rows.specs.declared.kind.LocalKind.{LocalKind}
+use Rattle.rows.specs.declared.kind.LocalKind.TheVariants.{Word}
+use Rattle.rows.specs.Kinds.{local_kind, local_kind_no}
 use lib.ListN.{length-replicate}
 use borrow.Author.Tests.{lt-leb}
 use Rattle.std.proofs.lemmas.List.{take-take, take_all, take_at, drop_at, take_more_set}
@@ -10,8 +15,8 @@ use Rattle.language.specs.Checks.{same_k}
 use Rattle.rows.specs.Nodes.{Node}
 use Rattle.rows.specs.Trees.{Local, map_list, kind_no}
 use Rattle.names.specs.declared.asking.Effect.{Effect}
-use Rattle.names.specs.Fold.{Ctx, fit, eat, if_so, step}
-use Rattle.names.specs.Kinds.{kind_or}
+use Rattle.names.specs.Fold.{Ctx, fit, eat, step}
+use Rattle.names.specs.Kinds.{kind_found}
 use Rattle.names.specs.Effects.{give, local_kinds, Does}
 use Rattle.names.specs.Pile.{Piled, Remains}
 use Rattle.names.proofs.NameKinds.{map-length}
@@ -145,26 +150,38 @@ fits-so ls st words {pile} {front} {back} {a} {b} ep le ef eb aw bk =
     ∙ ap (λ (q : List Kind). fit q (replicate words k_word ++ local_kinds ls)) (sym ek)
     ∙ sym (ap (λ (x : Bool). x && fit ks (replicate words k_word ++ local_kinds ls)) (le-leb (words + length ls) (length st) (omega arith)))
 
-give-none : (o : Option Kind) (b : Bool) → if_so b (give o none) ≡ none
-give-none none true = refl
-give-none none false = refl
-give-none (some k) true = refl
-give-none (some k) false = refl
+give-none : (o : Option Kind) → give o none ≡ none
+give-none none = refl
+give-none (some k) = refl
+
+-- the kind that is given, and that there is one
+abbrev kind_of : std.Option LocalKind → LocalKind
+kind_of None = Word
+kind_of (Some k) = k
+
+abbrev given_no : std.Option LocalKind → ℕ
+given_no None = 0
+given_no (Some k) = 1
+
+number-kind : (k : Kind) → local_kind_no (local_kind k) ≡ kind_no k
+number-kind k_word = refl
+number-kind (k_arr true) = refl
+number-kind (k_arr false) = refl
 
 -- what a node does of which the effect is e, on the pile st
 module _ {row : List ℕ} {Γ : Ctx} {d : ℕ} {t : Node} {e : Effect} (st : List Kind) (v : Does row Γ d t e) where
   eaten : Bool → Option (List Kind)
   eaten b = pick b (some (take (length st - (e.words + length v.asked)) st)) none
 
-  by_fit : (b : Bool) → b ≡ (leb (e.words + length v.asked) (length st) && fit (drop (length st - (e.words + length v.asked)) st) (replicate e.words k_word ++ local_kinds v.asked)) → step Γ d t st ≡ if_so e.ok (give v.given (eaten b))
+  by_fit : (b : Bool) → b ≡ (leb (e.words + length v.asked) (length st) && fit (drop (length st - (e.words + length v.asked)) st) (replicate e.words k_word ++ local_kinds v.asked)) → step Γ d t st ≡ give v.given (eaten b)
   unfolding eat eaten
-  by_fit b q = v.is st ∙ ap (λ (x : Bool). if_so e.ok (give v.given (pick x (some (take (length st - (e.words + length v.asked)) st)) none))) (sym q)
+  by_fit b q = v.is st ∙ ap (λ (x : Bool). give v.given (pick x (some (take (length st - (e.words + length v.asked)) st)) none)) (sym q)
 
   pub refused : false ≡ (leb (e.words + length v.asked) (length st) && fit (drop (length st - (e.words + length v.asked)) st) (replicate e.words k_word ++ local_kinds v.asked)) → step Γ d t st ≡ none
   unfolding eaten
-  refused q = by_fit false q ∙ give-none v.given e.ok
+  refused q = by_fit false q ∙ give-none v.given
 
-  module _ {w : List ℕ} {n left : ℕ} (p : Piled w n st) (fine : e.ok ≡ true) (q : true ≡ (leb (e.words + length v.asked) (length st) && fit (drop (length st - (e.words + length v.asked)) st) (replicate e.words k_word ++ local_kinds v.asked))) (el : left ≡ n - e.words - e.params.left) where
+  module _ {w : List ℕ} {n left : ℕ} (p : Piled w n st) (q : true ≡ (leb (e.words + length v.asked) (length st) && fit (drop (length st - (e.words + length v.asked)) st) (replicate e.words k_word ++ local_kinds v.asked))) (el : left ≡ n - e.words - e.params.left) where
     under : List Kind
     under = take (length st - (e.words + length v.asked)) st
 
@@ -178,20 +195,20 @@ module _ {row : List ℕ} {Γ : Ctx} {d : ℕ} {t : Node} {e : Effect} (st : Lis
 
     stepped : step Γ d t st ≡ give v.given (some under)
     unfolding eaten under
-    stepped = by_fit true q ∙ ap (λ (b : Bool). if_so b (give v.given (some (take (length st - (e.words + length v.asked)) st)))) fine
+    stepped = by_fit true q
 
-    pub keeps : e.gives ≡ 3 → Remains w (step Γ d t st) left
+    pub keeps : e.gives ≡ None → Remains w (step Γ d t st) left
     keeps g = go v.given v.gives stepped
       where
-        go : (o : Option Kind) → e.gives ≡ kind_or o → step Γ d t st ≡ give o (some under) → Remains w (step Γ d t st) left
+        go : (o : Option Kind) → e.gives ≡ kind_found o → step Γ d t st ≡ give o (some under) → Remains w (step Γ d t st) left
         go none k s = record { pile = under; is = s; there = below }
-        go (some k_word) k s = absurd (omega arith)
-        go (some (k_arr true)) k s = absurd (omega arith)
-        go (some (k_arr false)) k s = absurd (omega arith)
+        go (some j) k s = absurd (omega (arith, ap given_no (sym g ∙ k)))
 
-    pub puts : {x : ℕ} → (e.gives ≡ 3 → ⊥) → left < length w → ((k : Kind) → e.gives ≡ kind_no k → x ≡ kind_no k) → Remains (set w left x) (step Γ d t st) (left + 1)
-    puts {x} g lt it = go v.given v.gives stepped
+    pub puts : {k : LocalKind} {x : ℕ} → e.gives ≡ Some k → left < length w → x ≡ local_kind_no k → Remains (set w left x) (step Γ d t st) (left + 1)
+    puts {k} {x} g lt it = go v.given v.gives stepped
       where
-        go : (o : Option Kind) → e.gives ≡ kind_or o → step Γ d t st ≡ give o (some under) → Remains (set w left x) (step Γ d t st) (left + 1)
-        go none k s = absurd (g k)
-        go (some j) k s = record { pile = under ++ (j ∷ []); is = s; there = subst (λ (y : ℕ). Piled (set w left y) (left + 1) (under ++ (j ∷ []))) (sym (it j k)) (piled-push j lt below) }
+        go : (o : Option Kind) → e.gives ≡ kind_found o → step Γ d t st ≡ give o (some under) → Remains (set w left x) (step Γ d t st) (left + 1)
+        go none u s = absurd (omega (arith, ap given_no (sym g ∙ u)))
+        go (some j) u s =
+            let y : x ≡ kind_no j = it ∙ ap local_kind_no (ap kind_of (sym g ∙ u)) ∙ number-kind j in
+            record { pile = under ++ (j ∷ []); is = s; there = subst (λ (y : ℕ). Piled (set w left y) (left + 1) (under ++ (j ∷ []))) (sym y) (piled-push j lt below) }

@@ -8,15 +8,11 @@ use Rattle.limits.specs.declared.entries.Locals.{Locals}
 use Rattle.limits.specs.Entries.{Left}
 use Rattle.rows.specs.declared.kind.LocalKind.{LocalKind}
 use Rattle.rows.specs.Kinds.{local_kind}
-use Rattle.language.specs.Syntax.{pick, opt, Name, Kind, k_word, k_arr, Param, Fn, Item, i_word, i_arr, i_data, i_table, i_fn, i_use, Prog}
+use Rattle.language.specs.Syntax.{pick, Name, Kind, k_word, k_arr, Param, Fn, Item, i_word, i_arr, i_data, i_table, i_fn, i_use, Prog}
 use Rattle.language.specs.Meaning.{on_some, Top, resolve}
 use Rattle.language.specs.Checks.{kind_is, is_local, head_fn}
-use Rattle.rows.specs.Trees.{map_list, kind_no, of_param, local_row}
+use Rattle.rows.specs.Trees.{map_list, of_param, local_row}
 use Rattle.names.specs.Finds.{IsTop}
-
--- a kind's number, or 3 for none
-abbrev pub kind_or : Option Kind → ℕ
-kind_or o = opt o 3 kind_no
 
 abbrev pub kind_of_item : Item → Option Kind
 kind_of_item (i_word x) = some k_word

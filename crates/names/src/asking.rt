@@ -1,14 +1,14 @@
 // What a node of a body asks of the pile of kinds and gives to it.
-ghost use Rattle.std.specs.Prelude.{◌≡◌, List};
+ghost use Rattle.std.specs.Prelude.{◌≡◌, ℕ, List};
 ghost use Rattle.std.proofs.Math.Option.{Option};
-ghost use Rattle.language.specs.Syntax.{Name, Kind, Fn, i_fn, Param, Prog};
+ghost use Rattle.language.specs.Syntax.{Name, Fn, i_fn, Param, Prog};
 ghost use Rattle.rows.specs.Has.{Has, named};
 ghost use Rattle.rows.specs.Nodes.{Node, node_row};
 ghost use Rattle.rows.specs.NodeTags.{tag_no};
 ghost use Rattle.rows.specs.Trees.{item_row, prog_row};
 ghost use Rattle.names.specs.Fold.{ctx};
-ghost use Rattle.names.specs.Kinds.{kind_or, kind_found, FindsParams};
-ghost use Rattle.names.specs.Effects.{takes, gives, wants_kind, suits, stands, deeper, Does, Asks};
+ghost use Rattle.names.specs.Kinds.{FindsParams};
+ghost use Rattle.names.specs.Effects.{takes, gives, wants_kind, suits, stands, deeper, MayDo, MayAsk};
 
 use crate::kinds::{kind_in, params_of, params_table};
 use limits::entries::{Entries, Locals};
@@ -16,14 +16,12 @@ use rows::kind::LocalKind;
 use rows::read::{at, name_at, tag_at};
 use rows::tag::Tag;
 
-// What a node does to the pile of kinds, if it stands as it must: it asks for words and above them for these kinds of parameters, and gives a
-// kind by its number, or nothing (3).
+// What a node does to the pile of kinds: it asks for words and above them for these kinds of parameters, and gives a kind or none.
 #[derive(Clone, Copy)]
 pub struct Effect<'a> {
-    pub ok: bool,
     pub words: usize,
     pub params: Entries<'a, Locals>,
-    pub gives: usize,
+    pub gives: Option<LocalKind>,
 }
 
 // How many words a node asks for.
@@ -47,14 +45,16 @@ fn takes_of(tag: Tag) -> usize
     }
 }
 
-// The number of the kind that a node gives, by the kind of its name.
-fn gives_of(tag: Tag, kind: usize) -> usize
+// The kind that a node gives, by the kind of its name.
+fn gives_of(tag: Tag, kind: Option<LocalKind>) -> Option<LocalKind>
     ensures { result ≡ gives (tag_no tag) kind }
 {
     match tag {
         Tag::Var | Tag::Arg => kind,
-        Tag::Num | Tag::Bin | Tag::Join | Tag::Un | Tag::Idx | Tag::Len | Tag::In => 0,
-        _ => 3,
+        Tag::Num | Tag::Bin | Tag::Join | Tag::Un | Tag::Idx | Tag::Len | Tag::In => {
+            Some(LocalKind::Word)
+        }
+        _ => None,
     }
 }
 
@@ -69,13 +69,13 @@ fn has_kind(tag: Tag) -> bool
 }
 
 // Whether the kind of its name is as it must be.
-fn kind_suits(tag: Tag, kind: usize) -> bool
+fn kind_suits(tag: Tag, kind: Option<LocalKind>) -> bool
     ensures { result ≡ suits (tag_no tag) kind }
 {
     match tag {
-        Tag::Var | Tag::Arg => kind != 3,
-        Tag::Set => kind == 0,
-        _ => (kind == 1) | (kind == 2),
+        Tag::Var | Tag::Arg => kind.is_some(),
+        Tag::Set => matches!(kind, Some(LocalKind::Word)),
+        _ => matches!(kind, Some(LocalKind::Bytes | LocalKind::Words)),
     }
 }
 
@@ -101,59 +101,32 @@ pub fn depth_past(tag: Tag, depth: usize) -> usize
     }
 }
 
-// A call with so many arguments behind so many words.
-fn call_with<'a>(
-    row: &'a [u32],
-    found: Option<Entries<'a, Locals>>,
-    count: usize,
-    words: usize,
-) -> Effect<'a>
-    ensures { (o : Option (List Param)) → FindsParams row.now o found.entry → Asks row.now o count words result }
+// A call with so many arguments behind so many words, of what was found. None is that it is refused.
+fn call_with(found: Option<Entries<Locals>>, count: usize, words: usize) -> Option<Effect>
+    ensures { (row : List ℕ) (o : Option (List Param)) → FindsParams row o found.entry → MayAsk row o count words result }
 {
-    match found {
-        Some(params) => Effect {
-            ok: params.len() == count,
-            words,
-            params,
-            gives: 0,
-        },
-        None => Effect {
-            ok: false,
-            words,
-            params: Entries::new(row, 0, 0),
-            gives: 0,
-        },
-    }
+    let params = found?;
+    (params.len() == count).then_some(Effect {
+        words,
+        params,
+        gives: Some(LocalKind::Word),
+    })
 }
 
-// A kind's number, or 3 for none.
-fn number_of(kind: Option<LocalKind>) -> usize
-    ensures { (o : Option Kind) → kind ≡ kind_found o → result ≡ kind_or o }
-{
-    match kind {
-        Some(LocalKind::Word) => 0,
-        Some(LocalKind::Bytes) => 1,
-        Some(LocalKind::Words) => 2,
-        None => 3,
-    }
-}
-
-// What the node at a place does, in a function that is an item of a file.
-pub fn effect_of(row: &[u32], file: usize, item: usize, node: usize, depth: usize) -> Effect
-    ensures { (p : Prog) (f : Name) (g : Fn) (t : Node) → row.now ≡ prog_row p → Has row.now file (named f) → Has row.now item (item_row (i_fn g)) → Has row.now node (node_row t) → Does row.now (ctx p f g) depth t result }
+// What the node at a place does, in a function that is an item of a file. None is that it may not stand there.
+pub fn effect_of(row: &[u32], file: usize, item: usize, node: usize, depth: usize) -> Option<Effect>
+    ensures { (p : Prog) (f : Name) (g : Fn) (t : Node) → row.now ≡ prog_row p → Has row.now file (named f) → Has row.now item (item_row (i_fn g)) → Has row.now node (node_row t) → MayDo row.now (ctx p f g) depth t result }
 {
     let tag = tag_at(row, node);
     let second = node.saturating_add(1);
     let third = node.saturating_add(2);
     match tag {
         Tag::Call => call_with(
-            row,
             params_of(row, file, item, name_at(row, third)),
             at(row, second),
             0,
         ),
         Tag::By => call_with(
-            row,
             params_table(row, file, item, name_at(row, third)),
             at(row, second),
             1,
@@ -162,20 +135,20 @@ pub fn effect_of(row: &[u32], file: usize, item: usize, node: usize, depth: usiz
             let params = Entries::new(row, 0, 0);
             let words = takes_of(tag);
             if has_kind(tag) {
-                let kind = number_of(kind_in(row, file, item, name_at(row, second)));
-                Effect {
-                    ok: kind_suits(tag, kind),
+                let kind = kind_in(row, file, item, name_at(row, second));
+                let gives = gives_of(tag, kind);
+                kind_suits(tag, kind).then_some(Effect {
                     words,
                     params,
-                    gives: gives_of(tag, kind),
-                }
+                    gives,
+                })
             } else {
-                Effect {
-                    ok: may_stand(tag, at(row, third), depth),
+                let gives = gives_of(tag, None);
+                may_stand(tag, at(row, third), depth).then_some(Effect {
                     words,
                     params,
-                    gives: gives_of(tag, 3),
-                }
+                    gives,
+                })
             }
         }
     }

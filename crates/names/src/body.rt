@@ -28,8 +28,8 @@ fn check_node(
     ensures leaves { (p : Prog) (f : Name) (g : Fn) → row.now ≡ prog_row p → Has row.now file (named f) → Has row.now item (item_row (i_fn g)) → (t : Node) (st : List Kind) → Has row.now node (node_row t) → Piled pile.old len st → Leaves pile.new (step (ctx p f g) depth t st) result }
     ensures grows { MatchOption result Unit (λ n. n ≤ len + 1) }
 {
-    let e = effect_of(row, file, item, node, depth);
-    follow(row, e, pile, len)
+    let effect = effect_of(row, file, item, node, depth)?;
+    follow(row, effect, pile, len)
 }
 
 // Whether the body of a function, which is an item of a file, passes the checks. The pile has room for as many words as the row.

@@ -4,6 +4,7 @@ ghost use Rattle.std.specs.List.{list_all};
 ghost use Rattle.language.specs.Syntax.{Kind, k_word};
 ghost use Rattle.rows.specs.Nodes.{Node};
 ghost use Rattle.rows.specs.Trees.{Local, local_row, map_list, kind_no};
+ghost use Rattle.rows.specs.Kinds.{local_kind_no};
 ghost use Rattle.limits.specs.Entries.{Left};
 ghost use Rattle.names.specs.Fold.{Ctx, fit, step};
 ghost use Rattle.names.specs.Effects.{local_kinds, Does};
@@ -11,6 +12,7 @@ ghost use Rattle.names.specs.Pile.{Piled, Leaves};
 
 use crate::asking::Effect;
 use limits::entries::{Entries, Locals};
+use rows::kind::LocalKind;
 use rows::read::at;
 
 // Whether kinds of the pile are words.
@@ -49,16 +51,14 @@ fn top_fits(row: &[u32], e: Effect, pile: &[u32]) -> bool
     are_words(words) & are_kinds(row, e.params, kinds)
 }
 
-// A kind's number as a word of the pile.
-fn word_of(kind: usize) -> u32
-    ensures { (k : Kind) → kind ≡ kind_no k → result ≡ kind_no k }
+// A kind's number.
+fn number_of(kind: LocalKind) -> u32
+    ensures { result ≡ local_kind_no kind }
 {
-    if kind == 0 {
-        0
-    } else if kind == 1 {
-        1
-    } else {
-        2
+    match kind {
+        LocalKind::Word => 0,
+        LocalKind::Bytes => 1,
+        LocalKind::Words => 2,
     }
 }
 
@@ -68,16 +68,15 @@ pub fn follow(row: &[u32], e: Effect, pile: &mut [u32], len: usize) -> Option<us
     ensures leaves { (Γ : Ctx) (d : ℕ) (t : Node) (st : List Kind) → Does row.now Γ d t e.entry → Piled pile.old len st → Leaves pile.new (step Γ d t st) result }
     ensures grows { MatchOption result Unit (λ n. n ≤ len + 1) }
 {
-    if !e.ok {
-        return None;
-    }
     if !top_fits(row, e, &pile[..len]) {
         return None;
     }
     let left = len.saturating_sub(e.words).saturating_sub(e.params.len());
-    if e.gives == 3 {
-        return Some(left);
+    match e.gives {
+        Some(kind) => {
+            pile[left] = number_of(kind);
+            Some(left + 1)
+        }
+        None => Some(left),
     }
-    pile[left] = word_of(e.gives);
-    Some(left + 1)
 }
