@@ -9,7 +9,8 @@ use crate::place::ImagePlace;
 use crate::program::Tables;
 use rows::read::word_at;
 
-// The tables, how many words are at the top; the function at hand and the number of its first step.
+// The tables, how many words are at the top; the function at hand and the number of its first step. That 4 times `words` is a word is a premise of
+// what is ensured, and no ghost field: it would have to be proved where frames are made, of rows that are no program's too.
 #[derive(Clone, Copy)]
 pub struct Frame<'a> {
     pub tables: Tables<'a>,

@@ -1,4 +1,5 @@
-// Registers, by what they are for. Numbers, no enum: the processor's instructions take numbers, and arguments are counted from one on.
+// Registers, by what they are for. Numbers, no enum and no type with the bound 32: instructions take numbers, and arguments are counted from
+// one on; `Instr::Op(Alu::Sub, RESULT.0, RIGHT.0, LEFT.0)` is no plainer.
 
 // where a function returns to
 pub const RETURN: u32 = 1;
