@@ -21,6 +21,7 @@ pub fn read_request(rt: &HostRuntime) -> anyhow::Result<Request> {
     let mut files = Vec::new(rt.alloc());
     let mut help = false;
     let mut words = env::args(rt)?.skip(1);
+    // not a `for`: an option takes the word behind it
     while let Some(word) = words.next() {
         match word.as_str() {
             "--help" => help = true,

@@ -107,6 +107,7 @@ impl Search<'_> {
         let row = self.row;
         let mut number = before;
         let mut items = items_of(row, file);
+        // not a `for`: the items that follow are asked for the name
         while let Some(item) = items.next() {
             if let Some(between) = comes_again(row, item, items) {
                 let again = from_item(self.text, number.saturating_add(between).saturating_add(1));

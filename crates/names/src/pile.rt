@@ -55,11 +55,7 @@ fn top_fits(row: &[u32], e: Effect, pile: &[u32]) -> bool
 fn number_of(kind: LocalKind) -> u32
     ensures { result ≡ local_kind_no kind }
 {
-    match kind {
-        LocalKind::Word => 0,
-        LocalKind::Bytes => 1,
-        LocalKind::Words => 2,
-    }
+    kind as u32
 }
 
 // What a node leaves of the pile: how many kinds it has then. None is that the node is refused.
