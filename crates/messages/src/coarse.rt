@@ -136,8 +136,7 @@ impl Search<'_> {
 }
 
 // What is wrong with a program that the parser accepts and the checks do not.
-pub(super) fn find_fault(search: Search) -> Located<Fault> {
-    let mut search = search;
+pub(super) fn find_fault(search: &mut Search) -> Located<Fault> {
     let row = search.row;
     let start = |what| Located { at: 0, what };
     if !files_once(row) {

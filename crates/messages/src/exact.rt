@@ -124,8 +124,7 @@ impl Search<'_> {
 }
 
 // What is wrong with a program that the parser accepts and the checks do not.
-pub(super) fn find_fault(search: Search) -> Located<Fault> {
-    let mut search = search;
+pub(super) fn find_fault(search: &mut Search) -> Located<Fault> {
     let (whole, row) = (search.text, search.row);
     if at(row, 0) == 0 {
         return locate(whole, whole, Fault::NoFile);

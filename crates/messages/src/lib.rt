@@ -51,7 +51,7 @@ fn exact_refusal(text: &[u8], refused: Refused) -> Located<Reason> {
 // Where and why a text is no program, by what finds the fault of a tree and the place of a refusal.
 fn explain_by<C, R>(text: &[u8], work: &mut [u32], find_fault: C, refuse: R) -> Option<Problem>
 where
-    C: FnOnce(Search) -> Located<Fault>,
+    C: FnOnce(&mut Search) -> Located<Fault>,
     R: FnOnce(&[u8], Refused) -> Located<Reason>,
     requires finds { C.IsAlwaysCallable find_fault }
     requires refuses { R.IsAlwaysCallable refuse }
@@ -61,7 +61,11 @@ where
         return None;
     };
     let found = match parse_words(text, work) {
-        Ok(Parsed { row, pile }) => find_fault(Search { text, row, pile }).map(What::Fails),
+        Ok(parsed) => {
+            let Parsed { row, pile } = parsed;
+            let mut search = Search { text, row, pile };
+            find_fault(&mut search).map(What::Fails)
+        }
         Err(refused) => refuse(text, refused).map(What::Reads),
     };
     Some(Located {

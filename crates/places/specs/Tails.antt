@@ -1,5 +1,5 @@
 -- What is left of a text, and the pieces of a text one after another.
-use Rattle.std.specs.Prelude.{◌≡◌, ℕ, ◌≤◌, List, length, drop, MatchOption}
+use Rattle.std.specs.Prelude.{◌≡◌, ◌≢◌, ℕ, ◌≤◌, List, length, drop, MatchOption}
 use Rattle.std.specs.declared.option.Option as std
 use Rattle.pieces.specs.Cutting.{Cut}
 use Rattle.pieces.specs.declared.piece.Piece.TheVariants.{End}
@@ -14,4 +14,4 @@ pub record Tail (t r : List ℕ) : Type 0 where
 
 -- the next piece, with the text from it on and what is left behind it; or there is none
 abbrev pub Next : Cuts → std.Option Cutting → Cuts → Type 0
-Next s r s' = MatchOption r (Cut s.text.now End s'.text.now) (λ c. (c.from.now ≡ s.text.now) × Cut s.text.now c.piece c.behind.now × (s'.text.now ≡ c.behind.now))
+Next s r s' = MatchOption r (Cut s.text.now End s'.text.now) (λ c. (c.from.now ≡ s.text.now) × (c.piece ≢ End) × Cut s.text.now c.piece c.behind.now × (s'.text.now ≡ c.behind.now))
