@@ -52,7 +52,7 @@ pub fn item_kind(row: &[u32], item: usize) -> Option<LocalKind>
 }
 
 // The kind at the top of a file of what a name means.
-pub fn top_kind(row: &[u32], file: usize, name: &[u32]) -> Option<LocalKind>
+pub(super) fn top_kind(row: &[u32], file: usize, name: &[u32]) -> Option<LocalKind>
     ensures { (p : Prog) (f : Name) → row.now ≡ prog_row p → Has row.now file (named f) → result ≡ kind_found (kind_top p f name.now) }
 {
     let spot = resolve(row, file, name)?;
@@ -87,7 +87,7 @@ pub fn params_first(row: &[u32], file: usize, place: usize) -> Option<Entries<Lo
 }
 
 // The parameters of the functions of an item, if it is a table.
-pub fn table_at(row: &[u32], file: usize, item: usize) -> Option<Entries<Locals>>
+pub(super) fn table_at(row: &[u32], file: usize, item: usize) -> Option<Entries<Locals>>
     ensures { (p : Prog) (f : Name) (i : Item) → row.now ≡ prog_row p → Has row.now file (named f) → Has row.now item (item_row i) → FindsParams row.now (item_table p f i) result }
 {
     match item_kind_at(row, item) {

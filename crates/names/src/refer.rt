@@ -13,7 +13,7 @@ use crate::kinds::item_kind;
 use rows::kind::LocalKind;
 
 // A name of the function's own.
-pub fn own_reference(own: Own) -> Reference
+pub(super) fn own_reference(own: Own) -> Reference
     ensures { (ref : Ref) → own.index ≡ ref_index ref → own.kind ≡ local_kind (ref_kind ref) → result ≡ of_ref ref }
 {
     match own.kind {
@@ -24,7 +24,7 @@ pub fn own_reference(own: Own) -> Reference
 }
 
 // An item at the top.
-pub fn top_reference(row: &[u32], spot: Spot) -> Reference
+pub(super) fn top_reference(row: &[u32], spot: Spot) -> Reference
     ensures { (i : Item) → Has row.now spot.item (item_row i) → result ≡ item_meant i spot.words spot.arrays }
 {
     match item_kind(row, spot.item) {
