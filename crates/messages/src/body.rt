@@ -1,13 +1,14 @@
 // What is wrong with a function's body: the first of its nodes that fails, and exactly where.
 use super::closing::left_at_name;
-use super::function::Function;
+use super::function::check_node;
 use super::problem::Fault;
 use super::search::Search;
 use super::seeking::{from_large, from_leaving};
 use limits::entries::{Entries, Locals};
 use limits::head::head_of;
 use limits::nodes::Body;
-use names::asking::{depth_past, effect_of};
+use names::asking::depth_past;
+use names::function::Function;
 use names::pile::follow;
 use places::{Located, from_argument, locate, past_pieces};
 use rows::read::{at, tag_at, word_at};
@@ -71,7 +72,7 @@ impl Search<'_> {
             len: 0,
         };
         for node in Body::new(row, locals.end()) {
-            if let Err(fault) = function.check_node(node, reader.depth) {
+            if let Err(fault) = check_node(function, node, reader.depth) {
                 let place = match fault {
                     Fault::NumberTooLarge => from_large(text),
                     Fault::OutsideLoop => from_leaving(text, reader.leaving),
@@ -83,8 +84,7 @@ impl Search<'_> {
                 return Ok(());
             }
             // what its function's check has passed does something
-            let Some(effect) = effect_of(row, function.file, function.item, node, reader.depth)
-            else {
+            let Some(effect) = function.effect_of(node, reader.depth) else {
                 return Ok(());
             };
             let Some(len) = follow(row, effect, self.pile, reader.len) else {

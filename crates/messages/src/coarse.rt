@@ -1,5 +1,5 @@
 // The first fault that a reader of the items comes to, and where it is, but for most faults of an item where that begins.
-use super::function::Function;
+use super::function::check_node;
 use super::problem::Fault;
 use super::search::Search;
 use super::seeking::{from_large, from_leaving, from_name};
@@ -8,6 +8,7 @@ use limits::head::body_of;
 use limits::nodes::Body;
 use limits::{files_once, item_fits, names_once, totals_fit};
 use names::asking::depth_past;
+use names::function::Function;
 use names::items::{check_item, names_differ};
 use places::{Located, from_item, locate};
 use rows::kind::ItemKind;
@@ -51,7 +52,7 @@ fn body_fault(whole: &[u8], text: &[u8], function: Function) -> Located<Fault> {
     let row = function.row;
     let mut depth: usize = 0;
     for node in Body::new(row, body_of(row, function.item)) {
-        if let Err(fault) = function.check_node(node, depth) {
+        if let Err(fault) = check_node(function, node, depth) {
             let place = match fault {
                 Fault::NumberTooLarge => from_large(text),
                 Fault::OutsideLoop => from_leaving(text, 0),

@@ -1,12 +1,12 @@
 // What is wrong with an item of a file, and exactly where; the text begins with the item.
 use super::files::is_file;
-use super::function::Function;
 use super::problem::Fault;
 use super::search::Search;
 use super::seeking::{from_large, is_any_name, is_number};
 use limits::entries::{Entries, LETTERS, Locals, Names, is_named, used};
 use limits::head::{head_of, own_arrays};
 use limits::{MOST_ARRAYS, MOST_OWN, MOST_PARAMS, MOST_VARS};
+use names::function::Function;
 use names::items::{is_alike, is_there};
 use names::kinds::{params_first, params_named};
 use places::{Located, from_piece, locate, past_pieces};

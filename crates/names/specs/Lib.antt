@@ -6,3 +6,4 @@ pub mod Effects
 pub mod Pile
 pub mod Resolved
 pub mod Refer
+pub mod Function

@@ -1,16 +1,16 @@
 // What a node of a body asks of the pile of kinds and gives to it.
 ghost use Rattle.std.specs.Prelude.{◌≡◌, ℕ, List};
 ghost use Rattle.std.proofs.Math.Option.{Option};
-ghost use Rattle.language.specs.Syntax.{Name, Fn, i_fn, Param, Prog};
-ghost use Rattle.rows.specs.Has.{Has, named};
+ghost use Rattle.language.specs.Syntax.{Name, Fn, Param, Prog};
+ghost use Rattle.rows.specs.Has.{Has};
 ghost use Rattle.rows.specs.Nodes.{Node, node_row};
 ghost use Rattle.rows.specs.NodeTags.{tag_no};
-ghost use Rattle.rows.specs.Trees.{item_row, prog_row};
 ghost use Rattle.names.specs.Fold.{ctx};
+ghost use Rattle.names.specs.Function.{IsFunction};
 ghost use Rattle.names.specs.Kinds.{FindsParams};
 ghost use Rattle.names.specs.Effects.{takes, gives, wants_kind, suits, stands, deeper, MayDo, MayAsk};
 
-use crate::kinds::{kind_in, params_of, params_table};
+use crate::function::Function;
 use limits::entries::{Entries, Locals};
 use rows::kind::LocalKind;
 use rows::read::{at, name_at, tag_at};
@@ -113,42 +113,41 @@ fn call_with(found: Option<Entries<Locals>>, count: usize, words: usize) -> Opti
     })
 }
 
-// What the node at a place does, in a function that is an item of a file. None is that it may not stand there.
-pub fn effect_of(row: &[u32], file: usize, item: usize, node: usize, depth: usize) -> Option<Effect>
-    ensures { (p : Prog) (f : Name) (g : Fn) (t : Node) → row.now ≡ prog_row p → Has row.now file (named f) → Has row.now item (item_row (i_fn g)) → Has row.now node (node_row t) → MayDo row.now (ctx p f g) depth t result }
-{
-    let tag = tag_at(row, node);
-    let second = node.saturating_add(1);
-    let third = node.saturating_add(2);
-    match tag {
-        Tag::Call => call_with(
-            params_of(row, file, item, name_at(row, third)),
-            at(row, second),
-            0,
-        ),
-        Tag::By => call_with(
-            params_table(row, file, item, name_at(row, third)),
-            at(row, second),
-            1,
-        ),
-        _ => {
-            let params = Entries::new(row, 0, 0);
-            let words = takes_of(tag);
-            if has_kind(tag) {
-                let kind = kind_in(row, file, item, name_at(row, second));
-                let gives = gives_of(tag, kind);
-                kind_suits(tag, kind).then_some(Effect {
-                    words,
-                    params,
-                    gives,
-                })
-            } else {
-                let gives = gives_of(tag, None);
-                may_stand(tag, at(row, third), depth).then_some(Effect {
-                    words,
-                    params,
-                    gives,
-                })
+impl<'a> Function<'a> {
+    // What the node at a place does. None is that it may not stand there.
+    pub fn effect_of(self, node: usize, depth: usize) -> Option<Effect<'a>>
+        ensures { (p : Prog) (f : Name) (g : Fn) (t : Node) → IsFunction p f g self.entry → Has self.entry.row.now node (node_row t) → MayDo self.entry.row.now (ctx p f g) depth t result }
+    {
+        let row = self.row;
+        let tag = tag_at(row, node);
+        let second = node.saturating_add(1);
+        let third = node.saturating_add(2);
+        match tag {
+            Tag::Call => call_with(self.params_of(name_at(row, third)), at(row, second), 0),
+            Tag::By => call_with(
+                self.params_of_table(name_at(row, third)),
+                at(row, second),
+                1,
+            ),
+            _ => {
+                let params = Entries::new(row, 0, 0);
+                let words = takes_of(tag);
+                if has_kind(tag) {
+                    let kind = self.kind_of(name_at(row, second));
+                    let gives = gives_of(tag, kind);
+                    kind_suits(tag, kind).then_some(Effect {
+                        words,
+                        params,
+                        gives,
+                    })
+                } else {
+                    let gives = gives_of(tag, None);
+                    may_stand(tag, at(row, third), depth).then_some(Effect {
+                        words,
+                        params,
+                        gives,
+                    })
+                }
             }
         }
     }

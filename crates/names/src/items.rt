@@ -12,8 +12,8 @@ ghost use Rattle.names.specs.Effects.{local_kinds};
 ghost use Rattle.names.specs.Kinds.{FindsParams};
 ghost use Rattle.names.specs.Resolved.{like, there, item_resolved, items_resolved, files_resolved, resolved};
 
-use crate::body::check_body;
 use crate::find::{MAIN, find_top};
+use crate::function::Function;
 use crate::kinds::{params_at, params_first, params_named};
 use limits::entries::{Entries, LETTERS, Locals, Names, files_of, items_of};
 use limits::head::head_of;
@@ -106,7 +106,7 @@ pub fn check_item(row: &[u32], file: usize, item: usize, pile: &mut [u32]) -> bo
     match item_kind_at(row, item) {
         ItemKind::Word | ItemKind::Array | ItemKind::Data => true,
         ItemKind::Table => check_table(row, file, rest),
-        ItemKind::Function => check_body(row, file, item, pile),
+        ItemKind::Function => Function { row, file, item }.check_body(pile),
         ItemKind::Use => !same_at(row, name, file) & are_there(row, name, rest),
     }
 }

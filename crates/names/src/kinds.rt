@@ -52,31 +52,11 @@ pub fn item_kind(row: &[u32], item: usize) -> Option<LocalKind>
 }
 
 // The kind at the top of a file of what a name means.
-fn top_kind(row: &[u32], file: usize, name: &[u32]) -> Option<LocalKind>
+pub(super) fn top_kind(row: &[u32], file: usize, name: &[u32]) -> Option<LocalKind>
     ensures { (p : Prog) (f : Name) → row.now ≡ prog_row p → Has row.now file (named f) → result ≡ kind_found (kind_top p f name.now) }
 {
     let spot = resolve(row, file, name)?;
     item_kind(row, spot.item)
-}
-
-// The kind of a name in a function.
-pub fn kind_in(row: &[u32], file: usize, item: usize, name: &[u32]) -> Option<LocalKind>
-    ensures { (p : Prog) (f : Name) (g : Fn) → row.now ≡ prog_row p → Has row.now file (named f) → Has row.now item (item_row (i_fn g)) → result ≡ kind_found (kind_of p f g name.now) }
-{
-    match own_in(row, item, name) {
-        Some(own) => Some(own.kind),
-        None => top_kind(row, file, name),
-    }
-}
-
-// What a name means that is called in a function: the function's own names hide it.
-fn find_called(row: &[u32], file: usize, item: usize, name: &[u32]) -> Option<Spot>
-    ensures { (p : Prog) (f : Name) (g : Fn) → row.now ≡ prog_row p → Has row.now file (named f) → Has row.now item (item_row (i_fn g)) → FindsCalled row.now (called p f g name.now) result }
-{
-    if own_in(row, item, name).is_some() {
-        return None;
-    }
-    resolve(row, file, name)
 }
 
 // The parameters of an item, if it is a function.
@@ -106,38 +86,12 @@ pub fn params_first(row: &[u32], file: usize, place: usize) -> Option<Entries<Lo
     params_named(row, file, name_at(row, first))
 }
 
-// The parameters of what a function calls.
-pub fn params_of<'a>(
-    row: &'a [u32],
-    file: usize,
-    item: usize,
-    name: &[u32],
-) -> Option<Entries<'a, Locals>>
-    ensures { (p : Prog) (f : Name) (g : Fn) → row.now ≡ prog_row p → Has row.now file (named f) → Has row.now item (item_row (i_fn g)) → FindsParams row.now (params_of p f g name.now) result }
-{
-    let spot = find_called(row, file, item, name)?;
-    params_at(row, spot.item)
-}
-
 // The parameters of the functions of an item, if it is a table.
-fn table_at(row: &[u32], file: usize, item: usize) -> Option<Entries<Locals>>
+pub(super) fn table_at(row: &[u32], file: usize, item: usize) -> Option<Entries<Locals>>
     ensures { (p : Prog) (f : Name) (i : Item) → row.now ≡ prog_row p → Has row.now file (named f) → Has row.now item (item_row i) → FindsParams row.now (item_table p f i) result }
 {
     match item_kind_at(row, item) {
         ItemKind::Table => params_first(row, file, past_name(row, item.saturating_add(2))),
         _ => None,
     }
-}
-
-// The parameters of the functions of a table that a function calls.
-pub fn params_table<'a>(
-    row: &'a [u32],
-    file: usize,
-    item: usize,
-    name: &[u32],
-) -> Option<Entries<'a, Locals>>
-    ensures { (p : Prog) (f : Name) (g : Fn) → row.now ≡ prog_row p → Has row.now file (named f) → Has row.now item (item_row (i_fn g)) → FindsParams row.now (params_of_table p f g name.now) result }
-{
-    let spot = find_called(row, file, item, name)?;
-    table_at(row, spot.file, spot.item)
 }

@@ -5,6 +5,7 @@ pub mod asking;
 pub mod body;
 pub mod find;
 pub mod found;
+pub mod function;
 pub mod items;
 pub mod kinds;
 pub mod own;

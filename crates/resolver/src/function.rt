@@ -1,14 +1,15 @@
 // A function: how many words it has of each sort, its own arrays, its nodes.
 ghost use Rattle.std.specs.Prelude.{◌≡◌, true, List};
-ghost use Rattle.language.specs.Syntax.{Name, k_word, Arr, Fn, i_fn, Prog};
+ghost use Rattle.language.specs.Syntax.{Name, k_word, Arr, Fn, Prog};
 ghost use Rattle.language.specs.Checks.{sizes, ok_fn, same_k};
 ghost use Rattle.language.specs.Words.{bit};
 ghost use Rattle.rows.specs.Row.{Pushed};
-ghost use Rattle.rows.specs.Has.{Has, named};
-ghost use Rattle.rows.specs.Trees.{Local, list_row, map_list, of_array, local_row, item_row};
+ghost use Rattle.rows.specs.Has.{Has};
+ghost use Rattle.rows.specs.Trees.{Local, list_row, map_list, of_array, local_row};
 ghost use Rattle.steps.specs.Generate.{words_of, shapes_of};
 ghost use Rattle.limits.specs.Entries.{Left};
 ghost use Rattle.names.specs.Finds.{slots_in};
+ghost use Rattle.names.specs.Function.{IsFunction};
 ghost use Rattle.generator.specs.ResolvedRows.{shape_words, routine_words, resolve_fn};
 ghost use Rattle.resolver.specs.Sound.{Sound, Lent};
 
@@ -17,6 +18,7 @@ use crate::words::word;
 use limits::entries::{Entries, Locals};
 use limits::head::{head_of, own_arrays};
 use limits::nodes::Body;
+use names::function::Function;
 use rows::kind::LocalKind;
 use rows::read::{at, local_kind_at};
 use rows::row::Row;
@@ -62,12 +64,13 @@ fn push_arrays(row: &[u32], arrays: Entries<Locals>, out: &mut Row)
     }
 }
 
-// The function that is an item of a file.
-pub fn push_function(row: &[u32], file: usize, item: usize, out: &mut Row)
+// A function.
+pub fn push_function(function: Function, out: &mut Row)
     ensures lent { Lent out.old out.new }
-    ensures pushed { (p : Prog) (f : Name) (g : Fn) → Sound row.now p → ok_fn p f g ≡ true → Has row.now file (named f) → Has row.now item (item_row (i_fn g)) → Pushed out.old out.new (routine_words (resolve_fn p f g)) }
+    ensures pushed { (p : Prog) (f : Name) (g : Fn) → Sound function.entry.row.now p → ok_fn p f g ≡ true → IsFunction p f g function.entry → Pushed out.old out.new (routine_words (resolve_fn p f g)) }
 {
-    let head = head_of(row, item);
+    let row = function.row;
+    let head = head_of(row, function.item);
     let words = count_words(row, head.params);
     let arrays = head.params.len().saturating_sub(words);
     let nodes = Body::new(row, head.locals.end());
@@ -79,5 +82,5 @@ pub fn push_function(row: &[u32], file: usize, item: usize, out: &mut Row)
         word(nodes.count()),
     ]);
     push_arrays(row, own_arrays(row, head), out);
-    push_nodes(row, file, item, nodes, out);
+    push_nodes(function, nodes, out);
 }

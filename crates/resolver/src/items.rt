@@ -17,6 +17,7 @@ use crate::function::push_function;
 use crate::node::function_number;
 use crate::words::word;
 use limits::entries::{Entries, Names, files_of, items_of};
+use names::function::Function;
 use rows::kind::ItemKind;
 use rows::read::{item_kind_at, name_at, past_name};
 use rows::row::Row;
@@ -55,7 +56,7 @@ fn push_item(row: &[u32], kind: ItemKind, file: usize, item: usize, out: &mut Ro
 {
     if is_of(row, item, kind) {
         match kind {
-            ItemKind::Function => push_function(row, file, item, out),
+            ItemKind::Function => push_function(Function { row, file, item }, out),
             ItemKind::Table => push_table(row, file, item, out),
             ItemKind::Word | ItemKind::Array | ItemKind::Data | ItemKind::Use => {}
         }

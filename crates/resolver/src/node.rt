@@ -1,12 +1,12 @@
 // One node with its name resolved.
 ghost use Rattle.std.specs.Prelude.{◌≡◌, true};
-ghost use Rattle.language.specs.Syntax.{Name, Fn, i_fn, Prog};
+ghost use Rattle.language.specs.Syntax.{Name, Fn, Prog};
 ghost use Rattle.language.specs.Meaning.{as_table};
 ghost use Rattle.language.specs.Checks.{ok_fn};
 ghost use Rattle.rows.specs.Has.{Has, named};
 ghost use Rattle.rows.specs.Nodes.{Node, node_row};
-ghost use Rattle.rows.specs.Trees.{item_row};
 ghost use Rattle.steps.specs.Generate.{scope, slots_of, number, fn_no};
+ghost use Rattle.names.specs.Function.{IsFunction};
 ghost use Rattle.generator.specs.Resolved.{resolve_node};
 ghost use Rattle.generator.specs.ResolvedRows.{node_words};
 ghost use Rattle.resolver.specs.Sound.{Sound, Known, Checked};
@@ -14,7 +14,7 @@ ghost use Rattle.resolver.specs.Stands.{seen};
 
 use crate::words::{Resolved, named, names_value, plain, word};
 use names::find::resolve;
-use names::refer::refer;
+use names::function::Function;
 use rows::read::{name_at, tag_at, word_at};
 use rows::tag::Tag;
 
@@ -38,24 +38,25 @@ fn table_number(row: &[u32], file: usize, name: &[u32]) -> usize
     }
 }
 
-// The node at a place, in a function that is an item of a file.
-pub fn resolved_node(row: &[u32], file: usize, item: usize, node: usize) -> Resolved
-    ensures { (p : Prog) (f : Name) (g : Fn) (t : Node) → Sound row.now p → ok_fn p f g ≡ true → Has row.now file (named f) → Has row.now item (item_row (i_fn g)) → Has row.now node (node_row t) → Checked p f t → node_words (seen result) ≡ node_words (resolve_node (scope p f (slots_of g)) t) }
+// The node at a place, in a function.
+pub fn resolved_node(function: Function, node: usize) -> Resolved
+    ensures { (p : Prog) (f : Name) (g : Fn) (t : Node) → Sound function.entry.row.now p → ok_fn p f g ≡ true → IsFunction p f g function.entry → Has function.entry.row.now node (node_row t) → Checked p f t → node_words (seen result) ≡ node_words (resolve_node (scope p f (slots_of g)) t) }
 {
+    let row = function.row;
     let tag = tag_at(row, node);
     let second = node.saturating_add(1);
     let third = node.saturating_add(2);
     match tag {
         Tag::Call => Resolved::Call(
-            word(function_number(row, file, name_at(row, third))),
+            word(function_number(row, function.file, name_at(row, third))),
             word_at(row, second),
         ),
         Tag::By => Resolved::By(
-            word(table_number(row, file, name_at(row, third))),
+            word(table_number(row, function.file, name_at(row, third))),
             word_at(row, second),
         ),
         _ => if names_value(tag) {
-            named(tag, refer(row, file, item, name_at(row, second)))
+            named(tag, function.refer(name_at(row, second)))
         } else {
             plain(tag, word_at(row, second))
         },

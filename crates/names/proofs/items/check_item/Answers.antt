@@ -11,7 +11,7 @@ returns-in-Table c = λ p f i e hf h.
     by_kind Table (λ i. c.check_table.result ≡ item_resolved p f i) c.item_kind_at.ensures c.in-Table.is (λ y xs k. c.check_table.ensures p f xs e hf (item_tail (omega arith) c.saturating_add-name.ensures c.past_name-rest.ensures (i_table y xs) k)) i h
 
 pub returns-in-Function : goal.returns-in-Function
-returns-in-Function c = λ p f i e hf h. by_kind Function (λ i. c.check_body.result ≡ item_resolved p f i) c.item_kind_at.ensures c.in-Function.is (λ g k. c.check_body.ensures p f g e hf k) i h
+returns-in-Function c = λ p f i e hf h. by_kind Function (λ i. c.check_body.result ≡ item_resolved p f i) c.item_kind_at.ensures c.in-Function.is (λ g k. c.check_body.ensures p f g (record { row = e; file = hf; item = k })) i h
 
 pub returns-in-Use : goal.returns-in-Use
 returns-in-Use c = λ p f i e hf h.

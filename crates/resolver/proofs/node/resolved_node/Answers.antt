@@ -15,23 +15,23 @@ use Rattle.resolver.proofs.NodeSorts.{no_call, call_words_are, table_words_are, 
 use Rattle.resolver.proofs.node.resolved_node.Goals as goal
 
 pub returns-in-Call : goal.returns-in-Call
-returns-in-Call c = λ p f g t so ok hf hi h k.
+returns-in-Call c = λ p f g t so ok at1 h k.
     let et = sym (tag_is t h) ∙ node_tag t h ∙ sym (ap tag_no (c.tag_at-tag.ensures t h)) ∙ ap tag_no c.in-Call.is in
-    call_words_are p f g (omega arith) c.saturating_add-second.ensures c.saturating_add-third.ensures t so h k et c.word_at.ensures (omega arith) (λ x hx kx. subst (λ y. c.function_number.result ≡ fn_no p f y) (c.name_at.ensures x hx) (c.function_number.ensures p f so hf (subst (Known p f) (sym (c.name_at.ensures x hx)) kx))) (λ lm ln. ap (λ (n : ℕ). 12 ∷ n ∷ c.word_at.result ∷ []) (c.word.ensures lm))
+    call_words_are p f g (omega arith) c.saturating_add-second.ensures c.saturating_add-third.ensures t so h k et c.word_at.ensures (omega arith) (λ x hx kx. subst (λ y. c.function_number.result ≡ fn_no p f y) (c.name_at.ensures x hx) (c.function_number.ensures p f so at1.file (subst (Known p f) (sym (c.name_at.ensures x hx)) kx))) (λ lm ln. ap (λ (n : ℕ). 12 ∷ n ∷ c.word_at.result ∷ []) (c.word.ensures lm))
 
 pub returns-in-By : goal.returns-in-By
-returns-in-By c = λ p f g t so ok hf hi h k.
+returns-in-By c = λ p f g t so ok at1 h k.
     let et = sym (tag_is t h) ∙ node_tag t h ∙ sym (ap tag_no (c.tag_at-tag.ensures t h)) ∙ ap tag_no c.in-By.is in
-    table_words_are p f g (omega arith) c.saturating_add-second.ensures c.saturating_add-third.ensures t so h k et c.word_at-in-By.ensures (omega arith) (λ x hx kx. subst (λ y. c.table_number.result ≡ number as_table p f y) (c.name_at-in-By.ensures x hx) (c.table_number.ensures p f so hf (subst (Known p f) (sym (c.name_at-in-By.ensures x hx)) kx))) (λ lm ln. ap (λ (n : ℕ). 13 ∷ n ∷ c.word_at-in-By.result ∷ []) (c.word-in-By.ensures lm))
+    table_words_are p f g (omega arith) c.saturating_add-second.ensures c.saturating_add-third.ensures t so h k et c.word_at-in-By.ensures (omega arith) (λ x hx kx. subst (λ y. c.table_number.result ≡ number as_table p f y) (c.name_at-in-By.ensures x hx) (c.table_number.ensures p f so at1.file (subst (Known p f) (sym (c.name_at-in-By.ensures x hx)) kx))) (λ lm ln. ap (λ (n : ℕ). 13 ∷ n ∷ c.word_at-in-By.result ∷ []) (c.word-in-By.ensures lm))
 
 pub returns-then-names_value : goal.returns-then-names_value
-returns-then-names_value c = λ p f g t so ok hf hi h k.
+returns-then-names_value c = λ p f g t so ok at1 h k.
     let et = ap tag_no (c.tag_at-tag.ensures t h) ∙ sym (node_tag t h) ∙ tag_is t h in
     let r = c.refer.result in
-    named_words_are p f g (omega arith) c.saturating_add-second.ensures c.saturating_add-third.ensures t so ok h (sym (ap is_value_name et) ∙ sym c.if-names_value.ensures) (λ x hx. subst (λ y. r ≡ meant (scope p f (slots_of g)) y) (c.name_at-then-names_value.ensures x hx) (c.refer.ensures p f g so.is hf hi)) (λ fits. ap node_words (c.named.ensures fits) ∙ ap (λ (n : ℕ). node_words (named_by n r)) et)
+    named_words_are p f g (omega arith) c.saturating_add-second.ensures c.saturating_add-third.ensures t so ok h (sym (ap is_value_name et) ∙ sym c.if-names_value.ensures) (λ x hx. subst (λ y. r ≡ meant (scope p f (slots_of g)) y) (c.name_at-then-names_value.ensures x hx) (c.refer.ensures p f g at1)) (λ fits. ap node_words (c.named.ensures fits) ∙ ap (λ (n : ℕ). node_words (named_by n r)) et)
 
 pub returns-else-names_value : goal.returns-else-names_value
-returns-else-names_value c = λ p f g t so ok hf hi h k.
+returns-else-names_value c = λ p f g t so ok at1 h k.
     let tag = c.tag_at-tag.result in
     let et = ap tag_no (c.tag_at-tag.ensures t h) ∙ sym (node_tag t h) ∙ tag_is t h in
     let n9 : tag_no tag ≡ 9 → ⊥ = λ e. c.in_default.not-Call (tag_same tag Call e) in

@@ -9,15 +9,15 @@ use Rattle.limits.proofs.BodyLaws.{closed_body}
 use Rattle.limits.proofs.EntryLaws.{rest_by, rest_next, rest_none}
 use Rattle.names.proofs.NodeEffects.{tag_is}
 use Rattle.names.proofs.BodyNodes.{checking_none, checking_more, checking_last, checking_refused, deeper-le}
-use Rattle.names.proofs.body.check_body.Goals as goal
+use Rattle.names.proofs.function.Function.check_body.Goals as goal
 
 pub loop-node-init : goal.loop-node-init
 loop-node-init c = (
   c.requires,
   omega (arith, ap (λ (s : Body). s.left) c.into_iter-node-iterator.ensures.into_iter_gives, c.new-node-items.ensures.most),
   omega (arith, ap (λ (s : Body). s.left) c.into_iter-node-iterator.ensures.into_iter_gives, c.new-node-items.ensures.most),
-  λ p f g e hf hi.
-      record { ts = nodes_b g.body; left = subst (λ s. NodesLeft c.args.row.now s (nodes_b g.body)) (sym c.into_iter-node-iterator.ensures.into_iter_gives) (c.new-node-items.ensures.left (nodes_b g.body) (c.body_of.ensures g hi) (closed_body g.body)); holds = checking_none p f g },
+  λ p f g at1.
+      record { ts = nodes_b g.body; left = subst (λ s. NodesLeft c.args.self.row.now s (nodes_b g.body)) (sym c.into_iter-node-iterator.ensures.into_iter_gives) (c.new-node-items.ensures.left (nodes_b g.body) (c.body_of.ensures g at1.item) (closed_body g.body)); holds = checking_none p f g },
 )
 
 pub check_node-requires : goal.check_node-requires
@@ -36,14 +36,14 @@ loop-node-preserved c =
       omega arith,
       omega arith,
       omega (arith, c.depth_past-depth.ensures),
-      λ p f g e hf hi.
-          rest_next NodesLeft (i.3 p f g e hf hi) c.in-Some.ensures.steps
-          (λ t ts h r v. checking_more t ts v (omega arith) (ap tag_no (c.tag_at.ensures t h) ∙ sym (node_tag t h) ∙ tag_is t h) (λ st q. c.in-Some-check_node.ensures.leaves p f g e hf hi t st h q) c.depth_past-depth.ensures),
+      λ p f g at1.
+          rest_next NodesLeft (i.3 p f g at1) c.in-Some.ensures.steps
+          (λ t ts h r v. checking_more t ts v (omega arith) (ap tag_no (c.tag_at.ensures t h) ∙ sym (node_tag t h) ∙ tag_is t h) (λ st q. c.in-Some-check_node.ensures.leaves p f g at1 t st h q) c.depth_past-depth.ensures),
     )
 
 pub returns-in-None-check_node : goal.returns-in-None-check_node
-returns-in-None-check_node c = λ p f g e hf hi.
-    rest_by NodesLeft (c.loop-node.invariant.3 p f g e hf hi) c.in-Some.ensures.steps (λ t ts h r v. checking_refused t ts v (λ st q. c.in-None-check_node.ensures.leaves p f g e hf hi t st h q))
+returns-in-None-check_node c = λ p f g at1.
+    rest_by NodesLeft (c.loop-node.invariant.3 p f g at1) c.in-Some.ensures.steps (λ t ts h r v. checking_refused t ts v (λ st q. c.in-None-check_node.ensures.leaves p f g at1 t st h q))
 
 pub returns : goal.returns
-returns c = λ p f g e hf hi. checking_last (rest_none NodesLeft (c.loop-node.invariant.3 p f g e hf hi) c.in-None.ensures.steps)
+returns c = λ p f g at1. checking_last (rest_none NodesLeft (c.loop-node.invariant.3 p f g at1) c.in-None.ensures.steps)
