@@ -1,8 +1,6 @@
 -- The code's view of a step, by tables and 32-bit numbers, is that of the lowering.
-use Rattle.std.proofs.Common.{◌≡◌, ℕ, suc, ◌+◌, ◌-◌, ◌*◌, ◌%◌, ◌<◌, ◌≤◌, min, Bool, true, false, not, ◌&&◌, List, [], ◌∷◌, ◌++◌, length, get_or, sym, refl, ap, ◌∙◌, ap₂, arith}
+use Rattle.std.proofs.Common.{◌≡◌, ℕ, suc, ◌+◌, ◌-◌, ◌*◌, ◌%◌, true, not, List, [], ◌∷◌, ◌++◌, sym, refl, ap, ◌∙◌, ap₂, arith}
 use mathlib.Core.Bool.{false≢true}
-use native.Mathlib.Decide.{dec_le}
-use lib.ListN.{get_or-eq_default}
 use Rattle.language.specs.Words.{all}
 use Rattle.steps.specs.Steps.{Step, s_num, s_copy, s_bin, s_un, s_flag, s_getw, s_setw, s_jump, s_jz, s_call, s_table, s_out, s_ret, s_in, s_idx, s_put, s_len, MFn, MProg}
 use Rattle.steps.specs.Fits.{StepFits}
@@ -23,23 +21,11 @@ use Rattle.assembler.specs.Tables.{Framed, Head}
 use Rattle.assembler.proofs.Putting.{reals-append}
 use Rattle.assembler.proofs.Rows.{stores-any}
 
--- a read behind the end is 0, wherever
-pub read_far : (w : List ℕ) (i k : ℕ) {s r : ℕ} → length w < 18446744073709551616 → s ≡ min (i + k) 18446744073709551615 → r ≡ get_or w s 0 → r ≡ get_or w (i + k) 0
-read_far w i k {s} {r} b e f = f ∙ go (dec_le (i + k) 18446744073709551615)
-  where
-    go : Dec (i + k ≤ 18446744073709551615) → get_or w s 0 ≡ get_or w (i + k) 0
-    go (yes h) = let z : s ≡ i + k = omega arith in ap (λ n. get_or w n 0) z
-    go (no h) = let z : length w ≤ s = omega arith in let y : length w ≤ i + k = omega arith in get_or-eq_default w 0 z ∙ sym (get_or-eq_default w 0 y)
-
 word_at : (m : MProg) (w i : ℕ) → m.arrays ≡ [] → w ≡ m.words → word_no (bare w) i ≡ word_no m i
 word_at m w i e h =
     let a : 0 ≡ data_size m = ap (λ cs. area (plens (live_of m) (lens cs))) (sym e) in
     let b : w + 0 ≡ nought_words m = ap₂ (λ x cs. x + area (plens (λ j. not (live_of m j)) (lens cs))) h (sym e) in
     ap₂ (λ (d n : ℕ). (all - 4 * ((d + n) - (d + i))) % all) a b
-
-and-true : (a b : Bool) → a && b ≡ true → b ≡ true
-and-true true b h = h
-and-true false b h = absurd (false≢true h)
 
 pub lower-same : {F : Frame} {m : MProg} {f : MFn} {at : ℕ → ℕ} → Framed F m f at → (p : ℕ) (s : Step) → core_step s ≡ true → StepFits m f s → lower (entry_at F) (step_place F) (bare F.words) (routine F.function) p s ≡ lower (entry_in m) at m f p s
 lower-same {F} {m} {f} {at} h p (s_num d n) c k = refl

@@ -1,5 +1,5 @@
 -- Laws of writing instructions.
-use Rattle.std.proofs.Common.{◌≡◌, ℕ, suc, ◌+◌, List, [], ◌∷◌, ◌++◌, length, take, sym, refl, ap, ◌∙◌, subst, ap₂, append_assoc, append-nil, arith, length-append}
+use Rattle.std.proofs.Common.{◌≡◌, ℕ, suc, ◌+◌, List, [], ◌∷◌, ◌++◌, length, take, sym, refl, ap, ◌∙◌, subst, append_assoc, append-nil, arith, length-append}
 use Rattle.processor.specs.declared.instr.Instr.{Instr}
 use Rattle.processor.specs.Instr.{encode}
 use Rattle.lower.specs.Code.{LI, to_real}
@@ -54,20 +54,6 @@ put_then {o} {p} {q} is {ks} js f g e = record {
 pub put-more : {o p q : Code} {is js : List Instr} → Put o p is → Put p q js → Put o q (is ++ js)
 put-more {o} {p} {q} {is} {js} f g = put_then is js f g (λ e. refl)
 
--- one instruction's word
-pub put_word : {o p : Code} {i : Instr} {w : ℕ} → w ≡ encode i → take p.here p.words.now ≡ take o.here o.words.now ++ (w ∷ []) → p.here ≡ o.here + 1 → length p.words.now ≡ length o.words.now → p.words.ghost_name ≡ o.words.ghost_name → Put o p (i ∷ [])
-put_word {o} {p} {i} {w} e t l k s = record {
-  grown = λ h. record { is = t ∙ ap (λ v. take o.here o.words.now ++ (v ∷ [])) e; long = l };
-  kept = k;
-  same = s;
-}
-
 -- the same instructions otherwise written
 pub put_as1 : {o p : Code} {i j : Instr} → i ≡ j → Put o p (i ∷ []) → Put o p (j ∷ [])
 put_as1 {o} {p} {i} {j} e f = put_as (ap (λ x. x ∷ []) e) f
-
-pub put_as2 : {o p : Code} {i j k l : Instr} → i ≡ k → j ≡ l → Put o p (i ∷ j ∷ []) → Put o p (k ∷ l ∷ [])
-put_as2 {o} {p} e g f = put_as (ap₂ (λ x y. x ∷ y ∷ []) e g) f
-
-pub put_as3 : {o p : Code} {i j k l m n : Instr} → i ≡ l → j ≡ m → k ≡ n → Put o p (i ∷ j ∷ k ∷ []) → Put o p (l ∷ m ∷ n ∷ [])
-put_as3 {o} {p} {i} {j} {k} {l} {m} {n} e g h f = put_as (ap₂ (λ x y. x ∷ y ∷ k ∷ []) e g ∙ ap (λ z. l ∷ m ∷ z ∷ []) h) f

@@ -1,8 +1,7 @@
 -- The tables and the code as lists.
-use Rattle.std.proofs.Common.{◌≡◌, ℕ, Option, Some, None, MatchOption, ltb, lt-ltb, zero, suc, ◌+◌, ◌-◌, ◌<◌, ◌≤◌, not, List, [], ◌∷◌, ◌++◌, length, get_or, take, drop, sym, refl, ap, ◌∙◌, subst, ap₂, append-nil, add-zero, arith, length-append, length-drop, take-append-drop, length-take}
+use Rattle.std.proofs.Common.{◌≡◌, ℕ, Option, Some, None, MatchOption, ltb, lt-ltb, zero, suc, ◌+◌, ◌-◌, ◌<◌, ◌≤◌, not, List, [], ◌∷◌, ◌++◌, length, get_or, take, drop, sym, refl, ap, ◌∙◌, subst, ap₂, append-nil, add-zero, arith, length-append, take-append-drop}
 use Rattle.std.specs.Bool.{then_some}
-use borrow.Rule.Slice.PartMut.{put_mid, post_of}
-use Rattle.std.proofs.lemmas.List.{take_all, drop-drop}
+use Rattle.std.proofs.lemmas.List.{take_all}
 use Rattle.rows.specs.Trees.{list_row}
 use Rattle.rows.specs.Has.{Has}
 use Rattle.rows.specs.Row.{Pushed, Wrote}
@@ -103,18 +102,6 @@ code-written {m} {p} {t} {o} {q} {r} {e} g k here long entry begun functions =
     let done = whole.grown (omega (arith, here, long, l)) in
     let all_of_it : length r.words.now ≤ r.here = omega (arith, whole.kept, long, here, done.long, l, encoded-length (reals 0 (row_of m p.main))) in
     (whole.same, sym (take_all r.here r.words.now all_of_it) ∙ (done.is ∙ (ap (λ x. take x o.words.now ++ encoded (reals 0 (row_of m p.main))) here ∙ reals-words 0 (row_of m p.main))))
-
--- the header, and the code behind it
-pub image-written : (o x y body : List ℕ) (size words : ℕ) → x ≡ 19525 ∷ size ∷ words ∷ 0 ∷ 0 ∷ [] → y ≡ body → put_mid 5 (5 + size - 5) (x ++ post_of 0 5 o) y ≡ (19525 ∷ size ∷ words ∷ 0 ∷ 0 ∷ body) ++ drop (5 + size) o
-image-written o x y body size words e h =
-    let z : 5 + (5 + size - 5) ≡ 5 + size = omega arith in
-    ap₂ (λ (a b : List ℕ). put_mid 5 (5 + size - 5) (a ++ post_of 0 5 o) b) e h
-    ∙ ap (λ l. 19525 ∷ size ∷ words ∷ 0 ∷ 0 ∷ (body ++ l)) (drop-drop (5 + size - 5) 5 o ∙ ap (λ n. drop n o) z)
-
-pub part-long : (o x : List ℕ) (size words : ℕ) → x ≡ 19525 ∷ size ∷ words ∷ 0 ∷ 0 ∷ [] → 5 + size ≤ length o → length (take (5 + size - 5) (drop 5 (x ++ post_of 0 5 o))) ≡ size
-part-long o x size words e h =
-    ap (λ (a : List ℕ). length (take (5 + size - 5) (drop 5 (a ++ post_of 0 5 o)))) e
-    ∙ simp (length-take, length-drop) (omega (arith, h))
 
 -- how long the code is
 words_long : (p : ℕ) (xs : List LI) → length (words_of p xs) ≡ length xs

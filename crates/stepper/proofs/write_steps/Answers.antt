@@ -1,11 +1,8 @@
 use Rattle.std.proofs.Common.{length, get_or, refl, ap, subst, arith, length-drop}
 use Rattle.stepper.specs.Bodies.{RoutineDone}
-use Rattle.stepper.proofs.Standing.{lent-more, lent_none}
-use Rattle.stepper.proofs.Routines.{passed_first, passed_more, passed-last, whole_is, all-good}
+use Rattle.stepper.proofs.Standing.{lent-more}
+use Rattle.stepper.proofs.Routines.{passed_more, passed-last, whole_is, all-good}
 use Rattle.stepper.proofs.write_steps.Goals as goal
-
-pub loop-i-init : goal.loop-i-init
-loop-i-init c = record { lent = lent_none _; passed = λ gs h n good short. passed_first _ gs _ _ h good short }
 
 pub loop-i-preserved : goal.loop-i-preserved
 loop-i-preserved c = record {

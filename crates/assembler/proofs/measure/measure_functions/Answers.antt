@@ -1,11 +1,6 @@
-use Rattle.std.proofs.Common.{◌≡◌, suc, ◌+◌, ◌-◌, ap, arith}
-use Rattle.rows.proofs.Writing.{pushed_more}
-use Rattle.std.proofs.Common.{Some}
-use Rattle.assembler.proofs.Measuring.{all_first, all_more, all-last, all_to, some-function}
+use Rattle.std.proofs.Common.{◌≡◌, suc, ◌+◌, ◌-◌, arith}
+use Rattle.assembler.proofs.Measuring.{all_more, all_to, some-function}
 use Rattle.assembler.proofs.measure.measure_functions.Goals as goal
-
-pub loop-i-init : goal.loop-i-init
-loop-i-init c m fs h s = all_to (omega arith) (all_first m fs c.push.new.self c.args.places.now h)
 
 pub loop-i-preserved : goal.loop-i-preserved
 loop-i-preserved c m fs h s =
@@ -17,9 +12,3 @@ returns-in_err-function c m fs h s =
     let z : c.args.program.count - c.loop-i.i ≡ suc (c.args.program.count - (c.loop-i.i + 1)) = omega arith in
     let a = all_to z (c.loop-i.invariant m fs h s) in
     absurd (some-function a.rest a.stands c.in_err-function.ensures)
-
-pub returns : goal.returns
-returns c m fs h s =
-    let z : c.args.program.count - c.loop-i.i ≡ 0 = omega arith in
-    let (size, entries, places) = all-last (all_to z (c.loop-i.invariant m fs h s)) in
-    (ap Some size, pushed_more c.push.ensures entries, places)

@@ -1,10 +1,7 @@
 use Rattle.std.proofs.Common.{◌≡◌, suc, ◌+◌, ◌-◌, arith}
-use Rattle.assembler.proofs.Emitting.{functions-first, functions_more, functions-last, functions_to}
+use Rattle.assembler.proofs.Emitting.{functions_more, functions_to}
 use Rattle.assembler.proofs.Measuring.{some-function}
 use Rattle.assembler.proofs.code.Code.functions.Goals as goal
-
-pub loop-i-init : goal.loop-i-init
-loop-i-init c m fs tb h k t = functions_to (omega arith) (functions-first m fs c.args.self.now h k t)
 
 pub loop-i-preserved : goal.loop-i-preserved
 loop-i-preserved c m fs tb h k t =
@@ -17,8 +14,3 @@ returns-in_default c m fs tb h k t =
     let z : c.args.program.count - c.loop-i.i ≡ suc (c.args.program.count - (c.loop-i.i + 1)) = omega arith in
     let a = functions_to z (c.loop-i.invariant m fs tb h k t) in
     absurd (some-function a.rest a.stands c.in_default.ensures)
-
-pub returns : goal.returns
-returns c m fs tb h k t =
-    let z : c.args.program.count - c.loop-i.i ≡ 0 = omega arith in
-    functions-last (functions_to z (c.loop-i.invariant m fs tb h k t))

@@ -1,11 +1,8 @@
 use Rattle.std.proofs.Common.{◌+◌, sym, ap, ◌∙◌, add-one}
 use Rattle.processor.specs.declared.instr.Instr.TheVariants.{Lw}
-use Rattle.assembler.proofs.Putting.{put-none, put-more, put_as, put_as1}
+use Rattle.assembler.proofs.Putting.{put-more, put_as, put_as1}
 use Rattle.assembler.proofs.Rows.{off_wraps, loads-next}
 use Rattle.assembler.proofs.code.Code.load_arguments.Goals as goal
-
-pub loop-j-init : goal.loop-j-init
-loop-j-init c = put-none _
 
 pub loop-j-preserved : goal.loop-j-preserved
 loop-j-preserved c =

@@ -1,8 +1,5 @@
-use Rattle.assembler.proofs.Emitting.{emitting_first, emitting_more, emitting_last}
+use Rattle.assembler.proofs.Emitting.{emitting_more, emitting_last}
 use Rattle.assembler.proofs.code.Code.steps_of.Goals as goal
-
-pub loop-words-init : goal.loop-words-init
-loop-words-init c m g begin ss fr h k = emitting_first m g begin ss c.args.self.now h k
 
 pub loop-words-preserved : goal.loop-words-preserved
 loop-words-preserved c m g begin ss fr h k = emitting_more _ fr (c.loop-words.invariant m g begin ss fr h k) c.loop-words-test.true c.step_from.ensures

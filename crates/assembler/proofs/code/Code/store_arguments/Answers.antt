@@ -1,12 +1,9 @@
 use Rattle.std.proofs.Common.{◌≡◌, suc, ◌+◌, sym, ap, ◌∙◌, add-one, arith}
 use Rattle.lower.specs.Code.{off}
 use Rattle.processor.specs.declared.instr.Instr.TheVariants.{Sw}
-use Rattle.assembler.proofs.Putting.{put-none, put-more, put_as, put_as1}
+use Rattle.assembler.proofs.Putting.{put-more, put_as, put_as1}
 use Rattle.assembler.proofs.Rows.{stores-next}
 use Rattle.assembler.proofs.code.Code.store_arguments.Goals as goal
-
-pub loop-j-init : goal.loop-j-init
-loop-j-init c = put-none _
 
 pub loop-j-preserved : goal.loop-j-preserved
 loop-j-preserved c =
