@@ -18,7 +18,7 @@ use names::function::Function;
 use rows::read::{name_at, tag_at, word_at};
 use rows::tag::Tag;
 
-// The number of a function that is named in a file; function 0 calls main.
+// The number of a function that is named in a file; function 0 calls main. No Option: the row has a number there, and a name of a program stands for one.
 pub fn function_number(row: &[u32], file: usize, name: &[u32]) -> usize
     ensures { (p : Prog) (f : Name) → Sound row.now p → Has row.now file (named f) → Known p f name.now → result ≡ fn_no p f name.now }
 {
