@@ -19,26 +19,26 @@ impl Function<'_> {
     // What the node at a place leaves of the pile.
     fn check_node(self, node: usize, depth: usize, pile: &mut [u32], len: usize) -> Option<usize>
         requires { len < length pile.old }
-        ensures leaves { (p : Prog) (f : Name) (g : Fn) → IsFunction p f g self.entry → (t : Node) (st : List Kind) → Has self.entry.row.now node (node_row t) → Piled pile.old len st → Leaves pile.new (step (ctx p f g) depth t st) result }
+        ensures leaves { (p : Prog) (f : Name) (g : Fn) → IsFunction p f g self.entry → (t : Node) (st : List Kind) → Has self.entry.file.row.now node (node_row t) → Piled pile.old len st → Leaves pile.new (step (ctx p f g) depth t st) result }
         ensures grows { MatchOption result Unit (λ n. n ≤ len + 1) }
     {
         let effect = self.effect_of(node, depth)?;
-        follow(self.row, effect, pile, len)
+        follow(self.file.row, effect, pile, len)
     }
 
     // Whether its body passes the checks. The pile has room for as many words as the row.
     pub fn check_body(self, pile: &mut [u32]) -> bool
-        requires { length self.row.now ≤ length pile.old }
+        requires { length self.file.row.now ≤ length pile.old }
         ensures { (p : Prog) (f : Name) (g : Fn) → IsFunction p f g self.entry → result ≡ ok_b p f g false g.body }
     {
         let mut len = 0;
         let mut depth = 0;
-        for node in Body::new(self.row, body_of(self.row, self.item)) {
+        for node in Body::new(self.file.row, body_of(self.file.row, self.item)) {
             match self.check_node(node, depth, pile, len) {
                 Some(left) => len = left,
                 None => return false,
             }
-            depth = depth_past(tag_at(self.row, node), depth);
+            depth = depth_past(tag_at(self.file.row, node), depth);
         }
         true
     }

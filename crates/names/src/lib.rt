@@ -3,6 +3,7 @@
 
 pub mod asking;
 pub mod body;
+pub mod file;
 pub mod find;
 pub mod found;
 pub mod function;

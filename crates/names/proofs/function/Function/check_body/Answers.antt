@@ -17,7 +17,7 @@ loop-node-init c = (
   omega (arith, ap (λ (s : Body). s.left) c.into_iter-node-iterator.ensures.into_iter_gives, c.new-node-items.ensures.most),
   omega (arith, ap (λ (s : Body). s.left) c.into_iter-node-iterator.ensures.into_iter_gives, c.new-node-items.ensures.most),
   λ p f g at1.
-      record { ts = nodes_b g.body; left = subst (λ s. NodesLeft c.args.self.row.now s (nodes_b g.body)) (sym c.into_iter-node-iterator.ensures.into_iter_gives) (c.new-node-items.ensures.left (nodes_b g.body) (c.body_of.ensures g at1.item) (closed_body g.body)); holds = checking_none p f g },
+      record { ts = nodes_b g.body; left = subst (λ s. NodesLeft c.args.self.file.row.now s (nodes_b g.body)) (sym c.into_iter-node-iterator.ensures.into_iter_gives) (c.new-node-items.ensures.left (nodes_b g.body) (c.body_of.ensures g at1.item) (closed_body g.body)); holds = checking_none p f g },
 )
 
 pub check_node-requires : goal.check_node-requires
