@@ -5,6 +5,7 @@ pub mod asking;
 pub mod body;
 pub mod file;
 pub mod find;
+pub mod follow;
 pub mod found;
 pub mod function;
 pub mod items;

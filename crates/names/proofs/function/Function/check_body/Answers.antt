@@ -32,7 +32,7 @@ loop-node-preserved c =
     let i0 = i.0 in
     let i1 = i.1 in
     let i2 = i.2 in
-    let kept = c.check_node.auto.pile in (
+    let kept = c.check_node.ensures.lent.kept in (
       omega arith,
       omega arith,
       omega (arith, c.depth_past-depth.ensures),
@@ -41,9 +41,9 @@ loop-node-preserved c =
           (λ t ts h r v. checking_more t ts v (omega arith) (ap tag_no (c.tag_at.ensures t h) ∙ sym (node_tag t h) ∙ tag_is t h) (λ st q. c.in-Some-check_node.ensures.leaves p f g at1 t st h q) c.depth_past-depth.ensures),
     )
 
-pub returns-in-None-check_node : goal.returns-in-None-check_node
-returns-in-None-check_node c = λ p f g at1.
-    rest_by NodesLeft (c.loop-node.invariant.3 p f g at1) c.in-Some.ensures.steps (λ t ts h r v. checking_refused t ts v (λ st q. c.in-None-check_node.ensures.leaves p f g at1 t st h q))
+pub returns-in_default : goal.returns-in_default
+returns-in_default c = λ p f g at1.
+    rest_by NodesLeft (c.loop-node.invariant.3 p f g at1) c.in-Some.ensures.steps (λ t ts h r v. checking_refused t ts v (λ st q. c.in_default.ensures.leaves p f g at1 t st h q))
 
 pub returns : goal.returns
 returns c = λ p f g at1. checking_last (rest_none NodesLeft (c.loop-node.invariant.3 p f g at1) c.in-None.ensures.steps)

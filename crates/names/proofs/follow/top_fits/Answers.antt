@@ -3,7 +3,7 @@ use Rattle.std.proofs.Common.{◌≡◌, ◌+◌, ◌-◌, length, take, drop, a
 use Rattle.rows.specs.Trees.{kind_no}
 use Rattle.names.proofs.NameKinds.{map-length}
 use Rattle.names.proofs.Piles.{cut, fits-so}
-use Rattle.names.proofs.pile.top_fits.Goals as goal
+use Rattle.names.proofs.follow.top_fits.Goals as goal
 
 pub returns : goal.returns
 returns c = λ ls st k e.

@@ -5,7 +5,7 @@ use Rattle.rows.proofs.Having.{has_word}
 use Rattle.limits.specs.Entries.{Left}
 use Rattle.limits.proofs.EntryLaws.{rest_by, rest_next, rest_none}
 use Rattle.names.proofs.Piles.{compared_none, compared_more, compared_stop, compared_all}
-use Rattle.names.proofs.pile.are_kinds.Goals as goal
+use Rattle.names.proofs.follow.are_kinds.Goals as goal
 
 pub returns-in_default : goal.returns-in_default
 returns-in_default c = λ ls ks k e. rest_by (Left local_row) (c.loop-name.invariant ls ks k e) c.in-Some.ensures.steps (λ m ms h r v. compared_none m ms v c.in_default.ensures.cases)
