@@ -3,6 +3,7 @@ use super::problem::{Fault, What};
 use pieces::refused::Reason;
 use std::fmt;
 
+#[derive(Clone, Copy, Debug, PartialEq, Eq)]
 pub struct Outline(pub What);
 
 impl fmt::Display for Outline {

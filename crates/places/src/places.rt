@@ -1,6 +1,6 @@
 // Where pieces of a text stand: each place is what is left of the text there.
-ghost use Rattle.std.specs.Prelude.{◌≡◌, ◌≤◌, length};
-ghost use Rattle.places.specs.Tails.{Tail};
+ghost use Rattle.std.specs.Prelude.{◌≡◌, ◌⊎◌, ◌≤◌, true, length};
+ghost use Rattle.places.specs.Tails.{Tail, First};
 
 use crate::cuts::pieces_of;
 use pieces::piece::Piece;
@@ -28,7 +28,8 @@ pub fn past_pieces(text: &[u8], n: usize) -> &[u8]
 // The text from a piece on, past so many of those that are sought; if there are no more, the text as it is.
 pub fn from_piece<F: Fn(Piece) -> bool>(text: &[u8], n: usize, is_sought: F) -> &[u8]
     requires { F.IsAlwaysCallable is_sought }
-    ensures { Tail text.now result.now }
+    ensures place { Tail text.now result.now }
+    ensures found { result.now ≡ text.now ⊎ First (λ piece. F.post is_sought piece true) result.now }
 {
     let mut left = n;
     for cutting in pieces_of(text) {
@@ -46,7 +47,7 @@ pub fn from_piece<F: Fn(Piece) -> bool>(text: &[u8], n: usize, is_sought: F) -> 
 pub fn from_item(text: &[u8], before: usize) -> &[u8]
     ensures { Tail text.now result.now }
 {
-    let mut rest = text;
+    let mut behind = text;
     let mut depth: usize = 0;
     let mut begins = true;
     let mut left = before;
@@ -63,9 +64,9 @@ pub fn from_item(text: &[u8], before: usize) -> &[u8]
             _ => {}
         }
         begins = depth == 0 && matches!(cutting.piece, Piece::Sign(b';' | b'}'));
-        rest = cutting.behind;
+        behind = cutting.behind;
     }
-    rest
+    behind
 }
 
 // The text from an argument on, by its number; the text begins with the name that is called. A table's index, in square brackets,

@@ -19,7 +19,7 @@ use names::function::Function;
 use rows::read::{name_at, tag_at, word_at};
 use rows::tag::Tag;
 
-// The number of a function that is named in a file; function 0 calls main.
+// The number of a function that is named in a file; function 0 calls main. No Option: the row has a number there, and a name of a program stands for one.
 pub fn function_number(file: File, name: &[u32]) -> usize
     ensures { (p : Prog) (f : Name) → Sound file.entry.row.now p → IsFile p f file.entry → Known p f name.now → result ≡ fn_no p f name.now }
 {

@@ -37,7 +37,7 @@ fn answer(rt: &HostRuntime, sources: &[Source]) -> anyhow::Result<bool> {
 }
 
 fn work(rt: &HostRuntime) -> anyhow::Result<bool> {
-    let names = env::args(rt)?.skip(1).collect(rt.alloc())?;
+    let names: Vec<String> = env::args(rt)?.skip(1).collect(rt.alloc())?;
     if names.is_empty() {
         return Err(anyhow!(USAGE));
     }
