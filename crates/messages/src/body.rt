@@ -9,7 +9,7 @@ use limits::head::head_of;
 use limits::nodes::Body;
 use names::asking::depth_past;
 use names::function::Function;
-use names::pile::follow;
+use names::pile::Pile;
 use places::{Located, from_argument, locate, past_pieces};
 use rows::read::{at, tag_at, word_at};
 use rows::tag::Tag;
@@ -22,13 +22,11 @@ struct Reader {
     // how many `break` and `continue` stand before it, and in how many loops it stands
     leaving: usize,
     depth: usize,
-    // how many kinds the pile has
-    len: usize,
 }
 
 impl Reader {
-    // Past a node, behind which the pile has so many kinds.
-    fn past(self, row: &[u32], node: usize, len: usize) -> Reader {
+    // Past a node.
+    fn past(self, row: &[u32], node: usize) -> Reader {
         let tag = tag_at(row, node);
         Reader {
             name: self.name.saturating_add(usize::from(tag.has_name())),
@@ -36,7 +34,6 @@ impl Reader {
                 .leaving
                 .saturating_add(usize::from(matches!(tag, Tag::Break | Tag::Next))),
             depth: depth_past(tag, self.depth),
-            len,
         }
     }
 }
@@ -69,6 +66,9 @@ impl Search<'_> {
             name: locals.len(),
             leaving: 0,
             depth: 0,
+        };
+        let mut pile = Pile {
+            words: self.pile,
             len: 0,
         };
         for node in Body::new(row, locals.end()) {
@@ -80,19 +80,19 @@ impl Search<'_> {
                 };
                 return Err(locate(self.text, place, fault));
             }
-            if reader.len >= self.pile.len() {
+            if pile.len >= pile.words.len() {
                 return Ok(());
             }
             // what its function's check has passed does something
             let Some(effect) = function.effect_of(node, reader.depth) else {
                 return Ok(());
             };
-            let Some(len) = follow(row, effect, self.pile, reader.len) else {
-                let unlike = unlike_argument(row, effect.params, &self.pile[..reader.len]);
+            let Some(()) = pile.follow(row, effect) else {
+                let unlike = unlike_argument(row, effect.params, pile.kinds());
                 let name = from_name(self.text, text, reader.name);
                 return Err(locate(self.text, from_argument(name, unlike), Fault::ArgumentKind));
             };
-            reader = reader.past(row, node, len);
+            reader = reader.past(row, node);
         }
         Ok(())
     }

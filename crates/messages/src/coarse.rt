@@ -8,8 +8,9 @@ use limits::head::body_of;
 use limits::nodes::Body;
 use limits::{files_once, item_fits, names_once, totals_fit};
 use names::asking::depth_past;
+use names::file::File;
 use names::function::Function;
-use names::items::{check_item, names_differ};
+use names::items::names_differ;
 use places::{Located, from_item, locate};
 use rows::kind::ItemKind;
 use rows::read::{at, item_kind_at, past_name, tag_at};
@@ -49,7 +50,7 @@ fn name_of_node(row: &[u32], node: usize) -> usize {
 
 // What is wrong with a function's body; the text begins with the function.
 fn body_fault(whole: &[u8], text: &[u8], function: Function) -> Located<Fault> {
-    let row = function.row;
+    let row = function.file.row;
     let mut depth: usize = 0;
     for node in Body::new(row, body_of(row, function.item)) {
         if let Err(fault) = check_node(function, node, depth) {
@@ -93,11 +94,12 @@ impl Search<'_> {
             };
             return Err(locate(self.text, place, fault));
         }
-        if check_item(row, file, item, self.pile) {
+        let file = File { row, name: file };
+        if file.check_item(item, self.pile) {
             return Ok(());
         }
         Err(match item_kind_at(row, item) {
-            ItemKind::Function => body_fault(self.text, text, Function { row, file, item }),
+            ItemKind::Function => body_fault(self.text, text, Function { file, item }),
             ItemKind::Table => locate(self.text, text, Fault::TableUnlike),
             _ => locate(self.text, text, Fault::NotThere),
         })

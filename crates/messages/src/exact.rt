@@ -5,8 +5,8 @@ use super::problem::Fault;
 use super::search::Search;
 use limits::entries::{Entries, Items, Names, files_of, is_named, items_of, own_name, used};
 use limits::{MOST_ELEMENTS, elements_of_item, files_once, item_fits, names_once};
-use names::find::{MAIN, find_top};
-use names::items::check_item;
+use names::file::File;
+use names::find::MAIN;
 use places::{Located, from_item, locate, past_pieces};
 use rows::kind::ItemKind;
 use rows::read::{at, item_kind_at, name_at};
@@ -67,7 +67,7 @@ fn array_too_many(row: &[u32]) -> Option<usize> {
 
 // What is wrong with main.
 fn main_fault(whole: &[u8], row: &[u32]) -> Located<Fault> {
-    match find_top(row, 1, &MAIN) {
+    match (File { row, name: 1 }).find_top(&MAIN) {
         Some(found) => {
             let before = items_of(row, 1)
                 .position(|item| item == found.item)
@@ -92,7 +92,8 @@ impl Search<'_> {
             let text = from_item(self.text, before);
             return Err(limit_fault(self.text, text, row, item));
         }
-        if check_item(row, file, item, self.pile) {
+        let file = File { row, name: file };
+        if file.check_item(item, self.pile) {
             return Ok(());
         }
         self.check_reference(from_item(self.text, before), file, item)

@@ -18,7 +18,7 @@ fn check_call(params: Option<Entries<Locals>>, count: usize) -> Result<(), Fault
 // A name where a word is wanted, or where an array is.
 fn check_kind(function: Function, name: usize, array: bool) -> Result<(), Fault> {
     let kind = function
-        .kind_of(name_at(function.row, name))
+        .kind_of(name_at(function.file.row, name))
         .ok_or(Fault::UnknownName)?;
     if (kind != LocalKind::Word) == array {
         Ok(())
@@ -29,7 +29,7 @@ fn check_kind(function: Function, name: usize, array: bool) -> Result<(), Fault>
 
 // The node at a place, in so many loops.
 pub(super) fn check_node(function: Function, node: usize, depth: usize) -> Result<(), Fault> {
-    let row = function.row;
+    let row = function.file.row;
     let second = node.saturating_add(1);
     let third = node.saturating_add(2);
     match tag_at(row, node) {

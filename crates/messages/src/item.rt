@@ -6,9 +6,8 @@ use super::seeking::{from_large, is_any_name, is_number};
 use limits::entries::{Entries, LETTERS, Locals, Names, is_named, used};
 use limits::head::{head_of, own_arrays};
 use limits::{MOST_ARRAYS, MOST_OWN, MOST_PARAMS, MOST_VARS};
+use names::file::File;
 use names::function::Function;
-use names::items::{is_alike, is_there};
-use names::kinds::{params_first, params_named};
 use places::{Located, from_piece, locate, past_pieces};
 use rows::kind::ItemKind;
 use rows::read::{at, item_kind_at, name_at, past_name, same_at};
@@ -75,18 +74,16 @@ pub(super) fn limit_fault(whole: &[u8], text: &[u8], row: &[u32], item: usize) -
 }
 
 // What is wrong with the functions of a table, which are named behind their number, and with which of them.
-fn table_fault(row: &[u32], file: usize, place: usize) -> (usize, Fault) {
-    let Some(params) = params_first(row, file, place) else {
+fn table_fault(file: File, place: usize) -> (usize, Fault) {
+    let row = file.row;
+    let Some(params) = file.params_first(place) else {
         return (0, Fault::UnknownName);
     };
-    let unlike = Entries::<Names>::counted(row, place).enumerate().find(|(_, name)| !is_alike(
-        row,
-        file,
-        params,
-        name_at(row, *name),
-    ));
+    let unlike = Entries::<Names>::counted(row, place)
+        .enumerate()
+        .find(|(_, name)| !file.is_alike(params, name_at(row, *name)));
     match unlike {
-        Some((k, name)) if params_named(row, file, name_at(row, name)).is_none() => (
+        Some((k, name)) if file.params_named(name_at(row, name)).is_none() => (
             k,
             Fault::UnknownName,
         ),
@@ -101,13 +98,14 @@ pub(super) fn from_listed(text: &[u8], n: usize) -> &[u8] {
 }
 
 // What is wrong with what a use of a file takes of another.
-fn use_fault(whole: &[u8], text: &[u8], row: &[u32], file: usize, item: usize) -> Located<Fault> {
+fn use_fault(whole: &[u8], text: &[u8], file: File, item: usize) -> Located<Fault> {
+    let row = file.row;
     let name = item.saturating_add(2);
-    if same_at(row, name, file) || !is_file(row, at(row, 0), name_at(row, name)) {
+    if same_at(row, name, file.name) || !is_file(row, at(row, 0), name_at(row, name)) {
         return locate(whole, past_pieces(text, 1), Fault::UnknownFile);
     }
     let missing = used(row, item)
-        .position(|used| !is_there(row, name, name_at(row, used)))
+        .position(|used| !(File { row, name }).is_there(name_at(row, used)))
         .unwrap_or(0);
     locate(whole, from_listed(text, missing), Fault::NotThere)
 }
@@ -117,18 +115,18 @@ impl Search<'_> {
     pub(super) fn check_reference(
         &mut self,
         text: &[u8],
-        file: usize,
+        file: File,
         item: usize,
     ) -> Result<(), Located<Fault>> {
-        let row = self.row;
+        let row = file.row;
         match item_kind_at(row, item) {
-            ItemKind::Function => self.check_function(text, Function { row, file, item }),
+            ItemKind::Function => self.check_function(text, Function { file, item }),
             ItemKind::Table => {
                 let list = past_name(row, item.saturating_add(2));
-                let (which, fault) = table_fault(row, file, list);
+                let (which, fault) = table_fault(file, list);
                 Err(locate(self.text, from_listed(text, which), fault))
             }
-            _ => Err(use_fault(self.text, text, row, file, item)),
+            _ => Err(use_fault(self.text, text, file, item)),
         }
     }
 }

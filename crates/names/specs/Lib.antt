@@ -6,4 +6,5 @@ pub mod Effects
 pub mod Pile
 pub mod Resolved
 pub mod Refer
+pub mod File
 pub mod Function

@@ -2,6 +2,7 @@
 use Rattle.std.specs.Prelude.{◌≡◌, ℕ, ◌≤◌, List, length, take, MatchOption}
 use Rattle.std.proofs.Math.Option.{Option, some, none}
 use Rattle.std.specs.declared.option.Option as std
+use Rattle.names.specs.declared.pile.Pile.{Pile}
 use Rattle.language.specs.Syntax.{Kind}
 use Rattle.rows.specs.Trees.{map_list, kind_no}
 
@@ -16,5 +17,11 @@ pub record Remains (w : List ℕ) (o : Option (List Kind)) (n : ℕ) : Type 0 wh
   pub is : o ≡ some pile
   pub there : Piled w n pile
 
-abbrev pub Leaves : List ℕ → Option (List Kind) → std.Option ℕ → Type 0
-Leaves w o r = MatchOption r (o ≡ none) (Remains w o)
+-- the node is refused, or the pile is what it left
+abbrev pub Leaves : Pile → Option (List Kind) → std.Option Unit → Type 0
+Leaves s o r = MatchOption r (o ≡ none) (λ u. Remains s.words.now o s.len)
+
+-- the slice that is lent is still the same, and as long
+pub record StillLent (o s : Pile) : Type 0 where
+  pub kept : length s.words.now ≡ length o.words.now
+  pub same : s.words.ghost_name ≡ o.words.ghost_name

@@ -116,9 +116,9 @@ fn call_with(found: Option<Entries<Locals>>, count: usize, words: usize) -> Opti
 impl<'a> Function<'a> {
     // What the node at a place does. None is that it may not stand there.
     pub fn effect_of(self, node: usize, depth: usize) -> Option<Effect<'a>>
-        ensures { (p : Prog) (f : Name) (g : Fn) (t : Node) → IsFunction p f g self.entry → Has self.entry.row.now node (node_row t) → MayDo self.entry.row.now (ctx p f g) depth t result }
+        ensures { (p : Prog) (f : Name) (g : Fn) (t : Node) → IsFunction p f g self.entry → Has self.entry.file.row.now node (node_row t) → MayDo self.entry.file.row.now (ctx p f g) depth t result }
     {
-        let row = self.row;
+        let row = self.file.row;
         let tag = tag_at(row, node);
         let second = node.saturating_add(1);
         let third = node.saturating_add(2);

@@ -7,18 +7,17 @@ ghost use Rattle.names.specs.Function.{IsFunction};
 ghost use Rattle.names.specs.Kinds.{kind_found, called, FindsParams, FindsCalled};
 ghost use Rattle.names.specs.Refer.{meant};
 
-use crate::find::resolve;
+use crate::file::File;
 use crate::found::{Reference, Spot};
-use crate::kinds::{own_in, params_at, table_at, top_kind};
+use crate::kinds::{own_in, params_at};
 use crate::refer::{own_reference, top_reference};
 use limits::entries::{Entries, Locals};
 use rows::kind::LocalKind;
 
-// A function: where its file's name and its item stand in a program's row.
+// A function: the place of the item that it is of its file.
 #[derive(Clone, Copy)]
 pub struct Function<'a> {
-    pub row: &'a [u32],
-    pub file: usize,
+    pub file: File<'a>,
     pub item: usize,
 }
 
@@ -27,9 +26,9 @@ impl<'a> Function<'a> {
     pub fn kind_of(self, name: &[u32]) -> Option<LocalKind>
         ensures { (p : Prog) (f : Name) (g : Fn) → IsFunction p f g self.entry → result ≡ kind_found (kind_of p f g name.now) }
     {
-        match own_in(self.row, self.item, name) {
+        match own_in(self.file.row, self.item, name) {
             Some(own) => Some(own.kind),
-            None => top_kind(self.row, self.file, name),
+            None => self.file.top_kind(name),
         }
     }
 
@@ -37,38 +36,42 @@ impl<'a> Function<'a> {
     pub fn refer(self, name: &[u32]) -> Reference
         ensures { (p : Prog) (f : Name) (g : Fn) → IsFunction p f g self.entry → result ≡ meant (scope p f (slots_of g)) name.now }
     {
-        if let Some(own) = own_in(self.row, self.item, name) {
+        if let Some(own) = own_in(self.file.row, self.item, name) {
             return own_reference(own);
         }
-        match resolve(self.row, self.file, name) {
-            Some(spot) => top_reference(self.row, spot),
+        match self.file.resolve(name) {
+            Some(spot) => top_reference(self.file.row, spot),
             None => Reference::Other,
         }
     }
 
     // What a name means that is called: the function's own names hide it.
     fn find_called(self, name: &[u32]) -> Option<Spot>
-        ensures { (p : Prog) (f : Name) (g : Fn) → IsFunction p f g self.entry → FindsCalled self.entry.row.now (called p f g name.now) result }
+        ensures { (p : Prog) (f : Name) (g : Fn) → IsFunction p f g self.entry → FindsCalled self.entry.file.row.now (called p f g name.now) result }
     {
-        if own_in(self.row, self.item, name).is_some() {
+        if own_in(self.file.row, self.item, name).is_some() {
             return None;
         }
-        resolve(self.row, self.file, name)
+        self.file.resolve(name)
     }
 
     // The parameters of what it calls.
     pub fn params_of(self, name: &[u32]) -> Option<Entries<'a, Locals>>
-        ensures { (p : Prog) (f : Name) (g : Fn) → IsFunction p f g self.entry → FindsParams self.entry.row.now (params_of p f g name.now) result }
+        ensures { (p : Prog) (f : Name) (g : Fn) → IsFunction p f g self.entry → FindsParams self.entry.file.row.now (params_of p f g name.now) result }
     {
         let spot = self.find_called(name)?;
-        params_at(self.row, spot.item)
+        params_at(self.file.row, spot.item)
     }
 
     // The parameters of the functions of a table that it calls.
     pub fn params_of_table(self, name: &[u32]) -> Option<Entries<'a, Locals>>
-        ensures { (p : Prog) (f : Name) (g : Fn) → IsFunction p f g self.entry → FindsParams self.entry.row.now (params_of_table p f g name.now) result }
+        ensures { (p : Prog) (f : Name) (g : Fn) → IsFunction p f g self.entry → FindsParams self.entry.file.row.now (params_of_table p f g name.now) result }
     {
         let spot = self.find_called(name)?;
-        table_at(self.row, spot.file, spot.item)
+        let home = File {
+            name: spot.file,
+            ..self.file
+        };
+        home.table_at(spot.item)
     }
 }

@@ -1,20 +1,23 @@
 // What the items of a program's files refer to: functions of tables, names that are used, bodies of functions.
 ghost use Rattle.std.specs.Prelude.{◌≡◌, ℕ, ◌≤◌, false, List, ◌∷◌, ◌++◌, length};
 ghost use Rattle.std.proofs.Math.Option.{Option};
-ghost use Rattle.language.specs.Syntax.{opt, Name, Param, Fn, Item, i_fn, File, Prog};
+ghost use Rattle.language.specs.Syntax.{opt, Name, Param, Fn, Item, i_fn, Prog};
+ghost use Rattle.language.specs.Syntax as tree;
 ghost use Rattle.language.specs.Meaning.{all_tops};
 ghost use Rattle.language.specs.Checks.{once, param_names, arr_names, head_fn, alike, all_there, no_more, has_main};
 ghost use Rattle.rows.specs.Has.{Has, named};
 ghost use Rattle.rows.specs.Trees.{Local, list_row, map_list, of_param, local_row, item_row, file_row, prog_row};
 ghost use Rattle.limits.specs.Entries.{Left};
+ghost use Rattle.names.specs.File.{IsFile};
 ghost use Rattle.names.specs.Fold.{fit};
 ghost use Rattle.names.specs.Effects.{local_kinds};
 ghost use Rattle.names.specs.Kinds.{FindsParams};
 ghost use Rattle.names.specs.Resolved.{like, there, item_resolved, items_resolved, files_resolved, resolved};
 
-use crate::find::{MAIN, find_top};
+use crate::file::File;
+use crate::find::MAIN;
 use crate::function::Function;
-use crate::kinds::{params_at, params_first, params_named};
+use crate::kinds::params_at;
 use limits::entries::{Entries, LETTERS, Locals, Names, files_of, items_of};
 use limits::head::head_of;
 use rows::kind::ItemKind;
@@ -43,85 +46,91 @@ fn same_kinds(row: &[u32], names: Entries<Locals>, others: Entries<Locals>) -> b
     rest.len() == 0
 }
 
-// Whether a name is that of a function with these kinds of parameters.
-pub fn is_alike(row: &[u32], file: usize, params: Entries<Locals>, name: &[u32]) -> bool
-    ensures { (p : Prog) (f : Name) (qs : List Param) → row.now ≡ prog_row p → Has row.now file (named f) → Left local_row row.now params.entry (map_list of_param qs) → result ≡ like p f qs name.now }
-{
-    match params_named(row, file, name) {
-        Some(others) => same_kinds(row, params, others),
-        None => false,
-    }
-}
-
-// Whether all names that stand behind their number are those of functions with these kinds of parameters.
-fn are_alike(row: &[u32], file: usize, params: Entries<Locals>, place: usize) -> bool
-    ensures { (p : Prog) (f : Name) (qs : List Param) (xs : List Name) → row.now ≡ prog_row p → Has row.now file (named f) → Left local_row row.now params.entry (map_list of_param qs) → Has row.now place (length xs ∷ list_row named xs) → result ≡ alike p f qs xs }
-{
-    let names: Entries<Names> = Entries::counted(row, place);
-    for name in names {
-        if !is_alike(row, file, params, name_at(row, name)) {
-            return false;
+impl File<'_> {
+    // Whether a name is that of a function with these kinds of parameters.
+    pub fn is_alike(self, params: Entries<Locals>, name: &[u32]) -> bool
+        ensures { (p : Prog) (f : Name) (qs : List Param) → IsFile p f self.entry → Left local_row self.entry.row.now params.entry (map_list of_param qs) → result ≡ like p f qs name.now }
+    {
+        match self.params_named(name) {
+            Some(others) => same_kinds(self.row, params, others),
+            None => false,
         }
     }
-    true
-}
 
-// Whether the functions of a table, which are named behind their number, have the same kinds of parameters.
-fn check_table(row: &[u32], file: usize, place: usize) -> bool
-    ensures { (p : Prog) (f : Name) (xs : List Name) → row.now ≡ prog_row p → Has row.now file (named f) → Has row.now place (length xs ∷ list_row named xs) → result ≡ opt (head_fn p f xs) false (λ qs. alike p f qs xs) }
-{
-    match params_first(row, file, place) {
-        Some(params) => are_alike(row, file, params, place),
-        None => false,
+    // Whether all names that stand behind their number are those of functions with these kinds of parameters.
+    fn are_alike(self, params: Entries<Locals>, place: usize) -> bool
+        ensures { (p : Prog) (f : Name) (qs : List Param) (xs : List Name) → IsFile p f self.entry → Left local_row self.entry.row.now params.entry (map_list of_param qs) → Has self.entry.row.now place (length xs ∷ list_row named xs) → result ≡ alike p f qs xs }
+    {
+        let names: Entries<Names> = Entries::counted(self.row, place);
+        for name in names {
+            if !self.is_alike(params, name_at(self.row, name)) {
+                return false;
+            }
+        }
+        true
     }
-}
 
-// Whether a name stands at the top of a file itself.
-pub fn is_there(row: &[u32], file: usize, name: &[u32]) -> bool
-    ensures { (p : Prog) (y : Name) → row.now ≡ prog_row p → Has row.now file (named y) → result ≡ there (all_tops p 0 0) y name.now }
-{
-    find_top(row, file, name).is_some()
-}
-
-// Whether all names that stand behind their number stand at the top of a file itself.
-fn are_there(row: &[u32], file: usize, place: usize) -> bool
-    ensures { (p : Prog) (y : Name) (xs : List Name) → row.now ≡ prog_row p → Has row.now file (named y) → Has row.now place (length xs ∷ list_row named xs) → result ≡ all_there (all_tops p 0 0) y xs }
-{
-    let names: Entries<Names> = Entries::counted(row, place);
-    for name in names {
-        if !is_there(row, file, name_at(row, name)) {
-            return false;
+    // Whether the functions of a table, which are named behind their number, have the same kinds of parameters.
+    fn check_table(self, place: usize) -> bool
+        ensures { (p : Prog) (f : Name) (xs : List Name) → IsFile p f self.entry → Has self.entry.row.now place (length xs ∷ list_row named xs) → result ≡ opt (head_fn p f xs) false (λ qs. alike p f qs xs) }
+    {
+        match self.params_first(place) {
+            Some(params) => self.are_alike(params, place),
+            None => false,
         }
     }
-    true
-}
 
-// Whether what an item of a file refers to is as the checks ask. The pile has room for as many words as the row.
-pub fn check_item(row: &[u32], file: usize, item: usize, pile: &mut [u32]) -> bool
-    requires { length row.now ≤ length pile.old }
-    ensures { (p : Prog) (f : Name) (i : Item) → row.now ≡ prog_row p → Has row.now file (named f) → Has row.now item (item_row i) → result ≡ item_resolved p f i }
-{
-    let name = item.saturating_add(2);
-    let rest = past_name(row, name);
-    match item_kind_at(row, item) {
-        ItemKind::Word | ItemKind::Array | ItemKind::Data => true,
-        ItemKind::Table => check_table(row, file, rest),
-        ItemKind::Function => Function { row, file, item }.check_body(pile),
-        ItemKind::Use => !same_at(row, name, file) & are_there(row, name, rest),
+    // Whether a name stands at the top of the file itself.
+    pub fn is_there(self, name: &[u32]) -> bool
+        ensures { (p : Prog) (y : Name) → IsFile p y self.entry → result ≡ there (all_tops p 0 0) y name.now }
+    {
+        self.find_top(name).is_some()
     }
-}
 
-// Whether what the items of a file refer to is as the checks ask.
-fn check_items(row: &[u32], file: usize, pile: &mut [u32]) -> bool
-    requires { length row.now ≤ length pile.old }
-    ensures { (p : Prog) (f : File) → row.now ≡ prog_row p → Has row.now file (file_row f) → result ≡ items_resolved p f.name f.items }
-{
-    for item in items_of(row, file) {
-        if !check_item(row, file, item, pile) {
-            return false;
+    // Whether all names that stand behind their number stand at the top of the file itself.
+    fn are_there(self, place: usize) -> bool
+        ensures { (p : Prog) (y : Name) (xs : List Name) → IsFile p y self.entry → Has self.entry.row.now place (length xs ∷ list_row named xs) → result ≡ all_there (all_tops p 0 0) y xs }
+    {
+        let names: Entries<Names> = Entries::counted(self.row, place);
+        for name in names {
+            if !self.is_there(name_at(self.row, name)) {
+                return false;
+            }
+        }
+        true
+    }
+
+    // Whether what an item of the file refers to is as the checks ask. The pile has room for as many words as the row.
+    pub fn check_item(self, item: usize, pile: &mut [u32]) -> bool
+        requires { length self.row.now ≤ length pile.old }
+        ensures { (p : Prog) (f : Name) (i : Item) → IsFile p f self.entry → Has self.entry.row.now item (item_row i) → result ≡ item_resolved p f i }
+    {
+        let row = self.row;
+        let name = item.saturating_add(2);
+        let rest = past_name(row, name);
+        match item_kind_at(row, item) {
+            ItemKind::Word | ItemKind::Array | ItemKind::Data => true,
+            ItemKind::Table => self.check_table(rest),
+            ItemKind::Function => (Function { file: self, item }).check_body(pile),
+            ItemKind::Use => {
+                let other = File { row, name };
+                !same_at(row, name, self.name) & other.are_there(rest)
+            }
         }
     }
-    true
+
+    // Whether what the items of the file refer to is as the checks ask.
+    fn check_items(self, pile: &mut [u32]) -> bool
+        requires { length self.row.now ≤ length pile.old }
+        ensures { (p : Prog) (f : tree.File) → self.entry.row.now ≡ prog_row p → Has self.entry.row.now self.entry.name (file_row f) → result ≡ items_resolved p f.name f.items }
+    {
+        for item in items_of(self.row, self.name) {
+            if !self.check_item(item, pile) {
+                return false;
+            }
+        }
+        true
+    }
 }
 
 // Whether what the items of all files refer to is as the checks ask.
@@ -130,7 +139,7 @@ fn check_files(row: &[u32], pile: &mut [u32]) -> bool
     ensures { (p : Prog) → row.now ≡ prog_row p → result ≡ files_resolved p p }
 {
     for file in files_of(row) {
-        if !check_items(row, file, pile) {
+        if !(File { row, name: file }).check_items(pile) {
             return false;
         }
     }
@@ -154,7 +163,7 @@ pub fn check_main(row: &[u32]) -> bool
     if at(row, 0) == 0 {
         return false;
     }
-    match find_top(row, 1, &MAIN) {
+    match (File { row, name: 1 }).find_top(&MAIN) {
         Some(spot) => is_plain(params_at(row, spot.item)),
         None => false,
     }

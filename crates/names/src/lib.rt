@@ -3,7 +3,9 @@
 
 pub mod asking;
 pub mod body;
+pub mod file;
 pub mod find;
+pub mod follow;
 pub mod found;
 pub mod function;
 pub mod items;

@@ -1,78 +1,19 @@
-// The pile of kinds: whether its top is as a node asks, and what the node leaves of it.
-ghost use Rattle.std.specs.Prelude.{◌≡◌, ℕ, ◌+◌, ◌-◌, ◌<◌, ◌≤◌, ◌&&◌, List, ◌++◌, length, drop, replicate, MatchOption, nat_le, ◌==◌};
-ghost use Rattle.std.specs.List.{list_all};
-ghost use Rattle.language.specs.Syntax.{Kind, k_word};
-ghost use Rattle.rows.specs.Nodes.{Node};
-ghost use Rattle.rows.specs.Trees.{Local, local_row, map_list, kind_no};
-ghost use Rattle.rows.specs.Kinds.{local_kind_no};
-ghost use Rattle.limits.specs.Entries.{Left};
-ghost use Rattle.names.specs.Fold.{Ctx, fit, step};
-ghost use Rattle.names.specs.Effects.{local_kinds, Does};
-ghost use Rattle.names.specs.Pile.{Piled, Leaves};
+// The pile of kinds in lent words.
+ghost use Rattle.std.specs.Prelude.{◌≡◌, ◌≤◌, length, take};
 
-use crate::asking::Effect;
-use limits::entries::{Entries, Locals};
-use rows::kind::LocalKind;
-use rows::read::at;
-
-// Whether kinds of the pile are words.
-fn are_words(kinds: &[u32]) -> bool
-    ensures { result ≡ list_all (λ kind. kind == 0) kinds.now }
-{
-    kinds.iter().all(|kind| *kind == 0)
+// The kinds' numbers, the top last. No `Vec`: what checks names has no heap, and is lent the words.
+#[derive(Drop)]
+pub struct Pile<'a> {
+    pub words: &'a mut [u32],
+    pub len: usize,
+    ghost room: { len ≤ length words.now },
 }
 
-// Whether kinds of the pile are those of a function's names.
-fn are_kinds(row: &[u32], names: Entries<Locals>, kinds: &[u32]) -> bool
-    ensures { (ls : List Local) (ks : List Kind) → Left local_row row.now names.entry ls → kinds.now ≡ map_list kind_no ks → result ≡ fit ks (local_kinds ls) }
-{
-    let mut rest = kinds;
-    for name in names {
-        let Some((kind, others)) = rest.split_first() else {
-            return false;
-        };
-        if at(row, name) != *kind as usize {
-            return false;
-        }
-        rest = others;
-    }
-    rest.is_empty()
-}
-
-// Whether the top of the pile is as a node asks.
-fn top_fits(row: &[u32], e: Effect, pile: &[u32]) -> bool
-    ensures { (ls : List Local) (st : List Kind) → Left local_row row.now e.entry.params ls → pile.now ≡ map_list kind_no st → result ≡ (nat_le (e.entry.words + length ls) (length st) && fit (drop (length st - (e.entry.words + length ls)) st) (replicate e.entry.words k_word ++ local_kinds ls)) }
-{
-    let wanted = e.words.saturating_add(e.params.len());
-    if pile.len() < wanted {
-        return false;
-    }
-    let (words, kinds) = pile[pile.len() - wanted..].split_at(e.words);
-    are_words(words) & are_kinds(row, e.params, kinds)
-}
-
-// A kind's number.
-fn number_of(kind: LocalKind) -> u32
-    ensures { result ≡ local_kind_no kind }
-{
-    kind as u32
-}
-
-// What a node leaves of the pile: how many kinds it has then. None is that the node is refused.
-pub fn follow(row: &[u32], e: Effect, pile: &mut [u32], len: usize) -> Option<usize>
-    requires { len < length pile.old }
-    ensures leaves { (Γ : Ctx) (d : ℕ) (t : Node) (st : List Kind) → Does row.now Γ d t e.entry → Piled pile.old len st → Leaves pile.new (step Γ d t st) result }
-    ensures grows { MatchOption result Unit (λ n. n ≤ len + 1) }
-{
-    if !top_fits(row, e, &pile[..len]) {
-        return None;
-    }
-    let left = len.saturating_sub(e.words).saturating_sub(e.params.len());
-    match e.gives {
-        Some(kind) => {
-            pile[left] = number_of(kind);
-            Some(left + 1)
-        }
-        None => Some(left),
+impl Pile<'_> {
+    // The kinds that it has.
+    pub fn kinds(&self) -> &[u32]
+        ensures { result.now ≡ take self.now.len self.now.words.now }
+    {
+        &self.words[..self.len]
     }
 }

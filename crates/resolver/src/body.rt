@@ -21,7 +21,7 @@ use rows::row::Row;
 // The nodes of a function.
 pub fn push_nodes(function: Function, nodes: Body, out: &mut Row)
     ensures lent { Lent out.old out.new }
-    ensures pushed { (p : Prog) (f : Name) (g : Fn) (ns : List Node) → Sound function.entry.row.now p → ok_fn p f g ≡ true → IsFunction p f g function.entry → NodesLeft function.entry.row.now nodes.entry ns → Each (Checked p f) ns → Pushed out.old out.new (list_row node_words (resolve_nodes (scope p f (slots_of g)) ns)) }
+    ensures pushed { (p : Prog) (f : Name) (g : Fn) (ns : List Node) → Sound function.entry.file.row.now p → ok_fn p f g ≡ true → IsFunction p f g function.entry → NodesLeft function.entry.file.row.now nodes.entry ns → Each (Checked p f) ns → Pushed out.old out.new (list_row node_words (resolve_nodes (scope p f (slots_of g)) ns)) }
 {
     for node in nodes {
         out.push_all(&<[u32; 3]>::from(resolved_node(function, node)));

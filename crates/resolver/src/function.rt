@@ -67,9 +67,9 @@ fn push_arrays(row: &[u32], arrays: Entries<Locals>, out: &mut Row)
 // A function.
 pub fn push_function(function: Function, out: &mut Row)
     ensures lent { Lent out.old out.new }
-    ensures pushed { (p : Prog) (f : Name) (g : Fn) → Sound function.entry.row.now p → ok_fn p f g ≡ true → IsFunction p f g function.entry → Pushed out.old out.new (routine_words (resolve_fn p f g)) }
+    ensures pushed { (p : Prog) (f : Name) (g : Fn) → Sound function.entry.file.row.now p → ok_fn p f g ≡ true → IsFunction p f g function.entry → Pushed out.old out.new (routine_words (resolve_fn p f g)) }
 {
-    let row = function.row;
+    let row = function.file.row;
     let head = head_of(row, function.item);
     let words = count_words(row, head.params);
     let arrays = head.params.len().saturating_sub(words);

@@ -12,7 +12,8 @@ ghost use Rattle.generator.specs.ResolvedRows.{resolved_words, resolve_prog};
 ghost use Rattle.resolver.specs.Sound.{Sound, Lent};
 
 use items::{count_files, push_files};
-use names::find::{MAIN, find_top};
+use names::file::File;
+use names::find::MAIN;
 use rows::kind::ItemKind;
 use rows::row::Row;
 use words::word;
@@ -27,7 +28,7 @@ mod words;
 fn main_number(row: &[u32]) -> usize
     ensures { (p : Prog) → Sound row.now p → result ≡ fn_no p (first_file p) w_main }
 {
-    match find_top(row, 1, &MAIN) {
+    match (File { row, name: 1 }).find_top(&MAIN) {
         Some(spot) => spot.fns.saturating_add(1),
         None => 0,
     }

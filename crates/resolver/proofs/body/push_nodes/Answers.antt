@@ -10,7 +10,7 @@ use Rattle.resolver.proofs.body.push_nodes.Goals as goal
 pub loop-node-init : goal.loop-node-init
 loop-node-init c = (
   lent_none c.args.out.now,
-  λ p f g ns so ok at1 h k. record { ts = ns; left = subst (λ s. NodesLeft c.args.function.row.now s ns) (sym c.into_iter-node-iterator.ensures.into_iter_gives) h; holds = pushing_none ns c.args.out.now k },
+  λ p f g ns so ok at1 h k. record { ts = ns; left = subst (λ s. NodesLeft c.args.function.file.row.now s ns) (sym c.into_iter-node-iterator.ensures.into_iter_gives) h; holds = pushing_none ns c.args.out.now k },
 )
 
 pub loop-node-preserved : goal.loop-node-preserved

@@ -16,4 +16,4 @@ use Rattle.resolver.proofs.body.push_nodes.Given as goal
 abbrev pub invariant-loop-node : goal.invariant-loop-node
 invariant-loop-node l =
     Lent l.initial.out l.out
-    × ((p : Prog) (f : Name) (g : Fn) (ns : List Node) → Sound l.fn.function.row.now p → ok_fn p f g ≡ true → IsFunction p f g l.fn.function → NodesLeft l.fn.function.row.now l.fn.nodes ns → Each (Checked p f) ns → Rest NodesLeft l.fn.function.row.now (Pushing (node_to (scope p f (slots_of g))) (Checked p f) ns l.initial.out l.out) l.node-iterator)
+    × ((p : Prog) (f : Name) (g : Fn) (ns : List Node) → Sound l.fn.function.file.row.now p → ok_fn p f g ≡ true → IsFunction p f g l.fn.function → NodesLeft l.fn.function.file.row.now l.fn.nodes ns → Each (Checked p f) ns → Rest NodesLeft l.fn.function.file.row.now (Pushing (node_to (scope p f (slots_of g))) (Checked p f) ns l.initial.out l.out) l.node-iterator)

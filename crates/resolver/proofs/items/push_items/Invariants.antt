@@ -15,4 +15,4 @@ use Rattle.resolver.proofs.items.push_items.Given as goal
 
 abbrev pub invariant-loop-item : goal.invariant-loop-item
 invariant-loop-item l =
-    Lent l.initial.out l.out × ((p : Prog) (f : File) → Sound l.row p → ok_is p f.name f.items ≡ true → Has l.row l.file (file_row f) → Rest (Left item_row) l.row (Pushing (item_words p f.name (item_kind_no l.kind)) (RightItem p f.name) f.items l.initial.out l.out) l.item-iterator)
+    Lent l.initial.out l.out × ((p : Prog) (f : File) → Sound l.file.row.now p → ok_is p f.name f.items ≡ true → Has l.file.row.now l.file.name (file_row f) → Rest (Left item_row) l.file.row.now (Pushing (item_words p f.name (item_kind_no l.kind)) (RightItem p f.name) f.items l.initial.out l.out) l.item-iterator)

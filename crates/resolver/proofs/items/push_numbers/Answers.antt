@@ -14,7 +14,7 @@ use Rattle.resolver.proofs.items.push_numbers.Goals as goal
 pub loop-name-init : goal.loop-name-init
 loop-name-init c = (
   lent_none c.args.out.now,
-  λ p f xs so hf h k. record { ts = xs; left = subst (λ s. Left named c.args.row.now s xs) (sym c.into_iter-name-iterator.ensures.into_iter_gives) h; holds = pushing_none xs c.args.out.now k },
+  λ p f xs so hf h k. record { ts = xs; left = subst (λ s. Left named c.args.file.row.now s xs) (sym c.into_iter-name-iterator.ensures.into_iter_gives) h; holds = pushing_none xs c.args.out.now k },
 )
 
 pub loop-name-preserved : goal.loop-name-preserved

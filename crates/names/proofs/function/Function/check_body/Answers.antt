@@ -17,7 +17,7 @@ loop-node-init c = (
   omega (arith, ap (λ (s : Body). s.left) c.into_iter-node-iterator.ensures.into_iter_gives, c.new-node-items.ensures.most),
   omega (arith, ap (λ (s : Body). s.left) c.into_iter-node-iterator.ensures.into_iter_gives, c.new-node-items.ensures.most),
   λ p f g at1.
-      record { ts = nodes_b g.body; left = subst (λ s. NodesLeft c.args.self.row.now s (nodes_b g.body)) (sym c.into_iter-node-iterator.ensures.into_iter_gives) (c.new-node-items.ensures.left (nodes_b g.body) (c.body_of.ensures g at1.item) (closed_body g.body)); holds = checking_none p f g },
+      record { ts = nodes_b g.body; left = subst (λ s. NodesLeft c.args.self.file.row.now s (nodes_b g.body)) (sym c.into_iter-node-iterator.ensures.into_iter_gives) (c.new-node-items.ensures.left (nodes_b g.body) (c.body_of.ensures g at1.item) (closed_body g.body)); holds = checking_none p f g },
 )
 
 pub check_node-requires : goal.check_node-requires
@@ -32,7 +32,7 @@ loop-node-preserved c =
     let i0 = i.0 in
     let i1 = i.1 in
     let i2 = i.2 in
-    let kept = c.check_node.auto.pile in (
+    let kept = c.check_node.ensures.lent.kept in (
       omega arith,
       omega arith,
       omega (arith, c.depth_past-depth.ensures),
@@ -41,9 +41,9 @@ loop-node-preserved c =
           (λ t ts h r v. checking_more t ts v (omega arith) (ap tag_no (c.tag_at.ensures t h) ∙ sym (node_tag t h) ∙ tag_is t h) (λ st q. c.in-Some-check_node.ensures.leaves p f g at1 t st h q) c.depth_past-depth.ensures),
     )
 
-pub returns-in-None-check_node : goal.returns-in-None-check_node
-returns-in-None-check_node c = λ p f g at1.
-    rest_by NodesLeft (c.loop-node.invariant.3 p f g at1) c.in-Some.ensures.steps (λ t ts h r v. checking_refused t ts v (λ st q. c.in-None-check_node.ensures.leaves p f g at1 t st h q))
+pub returns-in_default : goal.returns-in_default
+returns-in_default c = λ p f g at1.
+    rest_by NodesLeft (c.loop-node.invariant.3 p f g at1) c.in-Some.ensures.steps (λ t ts h r v. checking_refused t ts v (λ st q. c.in_default.ensures.leaves p f g at1 t st h q))
 
 pub returns : goal.returns
 returns c = λ p f g at1. checking_last (rest_none NodesLeft (c.loop-node.invariant.3 p f g at1) c.in-None.ensures.steps)

@@ -9,5 +9,5 @@ use Rattle.names.proofs.function.Function.check_body.Given as goal
 
 abbrev pub invariant-loop-node : goal.invariant-loop-node
 invariant-loop-node l =
-    (length l.self.row.now ≤ length l.pile) × (l.len + l.node-iterator.left ≤ length l.self.row.now) × (l.depth + l.node-iterator.left ≤ length l.self.row.now)
-    × ((p : Prog) (f : Name) (g : Fn) → IsFunction p f g l.self → Rest NodesLeft l.self.row.now (Checking l.pile p f g l.len l.depth) l.node-iterator)
+    (length l.self.file.row.now ≤ length l.pile.words.now) × (l.pile.len + l.node-iterator.left ≤ length l.self.file.row.now) × (l.depth + l.node-iterator.left ≤ length l.self.file.row.now)
+    × ((p : Prog) (f : Name) (g : Fn) → IsFunction p f g l.self → Rest NodesLeft l.self.file.row.now (Checking l.pile.words.now p f g l.pile.len l.depth) l.node-iterator)

@@ -9,4 +9,4 @@ returns-in-Some c = λ p f g at1.
     kind-own p f g c.args.name.now o.is (ap Some o.kind)
 
 pub returns-in-None : goal.returns-in-None
-returns-in-None c = λ p f g at1. kind_else p f g c.args.name.now (c.in-None.ensures g at1.item) (c.top_kind.ensures p f at1.row at1.file)
+returns-in-None c = λ p f g at1. kind_else p f g c.args.name.now (c.in-None.ensures g at1.item) (c.top_kind.ensures p f at1.file)
