@@ -64,6 +64,35 @@ ahead_none {T} {row} {w} {n} {e} {a} {k} v le = go v.ts v.long v.ends
     go [] l q = omega arith
     go (x ∷ xs) l q = absurd (omega arith)
 
+-- k of n entries were passed, the others stand from a place on, and P holds of them
+pub record Onward {T : Type 0} (row : T → List ℕ) (w : List ℕ) (n a k : ℕ) (P : List T → Type 0) : Type 0 where
+  pub ts : List T
+  pub here : Has w a (list_row row ts)
+  pub long : k + length ts ≡ n
+  pub holds : P ts
+
+pub onward_first : {E T : Type 0} {row : T → List ℕ} {w : List ℕ} {s : Entries E} {ts : List T} {n a : ℕ} {P : List T → Type 0} → Left row w s ts → a ≡ s.here → n ≡ s.left → P ts → Onward row w n a 0 P
+onward_first {ts = ts} k at all p = record { ts = ts; here = has_to (sym at) k.here; long = omega (arith, k.long); holds = p }
+
+module _ {T : Type 0} {row : T → List ℕ} {w : List ℕ} {n a k : ℕ} {P : List T → Type 0} where
+  pub onward_none : Onward row w n a k P → n ≤ k → P []
+  onward_none v le = go v.ts v.long v.holds
+    where
+      go : (ts : List T) → k + length ts ≡ n → P ts → P []
+      go [] l p = p
+      go (x ∷ xs) l p = absurd (omega arith)
+
+  -- the next of them: what that decides, with those behind it
+  pub onward_by : {C : Type 0} → Onward row w n a k P → k < n → ((x : T) (xs : List T) → Has w a (row x) → Has w (a + length (row x)) (list_row row xs) → (k + 1) + length xs ≡ n → P (x ∷ xs) → C) → C
+  onward_by {C} v lt it = go v.ts v.here v.long v.holds
+    where
+      go : (ts : List T) → Has w a (list_row row ts) → k + length ts ≡ n → P ts → C
+      go [] h l p = absurd (omega arith)
+      go (x ∷ xs) h l p = it x xs (has_left (row x) (list_row row xs) h) (has_right (row x) (list_row row xs) h) (omega arith) p
+
+  pub onward_next : {Q : List T → Type 0} {b : ℕ} → Onward row w n a k P → k < n → ((x : T) → Has w a (row x) → b ≡ a + length (row x)) → ((x : T) (xs : List T) → Has w a (row x) → P (x ∷ xs) → Q xs) → Onward row w n b (k + 1) Q
+  onward_next v lt to it = onward_by v lt (λ x xs h r l p. record { ts = xs; here = has_to (sym (to x h)) r; long = l; holds = it x xs h p })
+
 -- some are left, and P holds of them
 pub record Rest {S T : Type 0} (L : List ℕ → S → List T → Type 0) (w : List ℕ) (P : List T → Type 0) (s : S) : Type 0 where
   pub ts : List T

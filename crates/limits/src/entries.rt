@@ -134,6 +134,13 @@ impl<'a, E: Entry> Entries<'a, E> {
         here
     }
 
+    // Where the next one stands, or behind the last.
+    pub fn place(self) -> usize
+        ensures { result ≡ self.entry.here }
+    {
+        self.here
+    }
+
     // How many are left.
     pub fn len(self) -> usize
         ensures { result ≡ self.entry.left }

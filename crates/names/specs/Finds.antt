@@ -4,6 +4,9 @@ use Rattle.std.proofs.Math.Option.{Option, some, none}
 use Rattle.std.specs.declared.option.Option as std
 use Rattle.names.specs.declared.found.Spot.{Spot}
 use Rattle.names.specs.declared.found.Own.{Own}
+use Rattle.limits.specs.declared.entries.Entries.{Entries}
+use Rattle.limits.specs.declared.entries.Items.{Items}
+use Rattle.limits.specs.Entries.{Left}
 use Rattle.language.specs.Syntax.{Name, listed, Kind, k_word, k_arr, Item, i_word, i_arr, i_data, i_table, i_fn, i_use, Prog}
 use Rattle.language.specs.Meaning.{Top, top_of, resolve, as_fn, as_table, words_in, arrays_in, is_word, is_arr, is_table, is_fn}
 use Rattle.steps.specs.Generate.{Slot, Ref, r_word, r_arr, find, slot_of, pos, number}
@@ -86,6 +89,10 @@ pub record TopAt (row : List ℕ) (ts : List Top) (f x : Name) (s : Spot) : Type
 
 abbrev pub FindsTop : List ℕ → List Top → Name → Name → std.Option Spot → Type 0
 FindsTop row ts f x r = MatchOption r (top_of ts f x ≡ none) (TopAt row ts f x)
+
+-- the items that were found
+abbrev pub FindsItems : List ℕ → List Item → std.Option (Entries Items) → Type 0
+FindsItems row is r = MatchOption r (is ≡ []) (λ s. Left item_row row s is)
 
 -- whether an item uses a name
 abbrev pub uses : Item → Name → Bool

@@ -1,17 +1,18 @@
 // Names at the top of the files looked up in a program's row.
-ghost use Rattle.std.specs.Prelude.{◌≡◌, not, ◌&&◌, ◌==◌};
+ghost use Rattle.std.specs.Prelude.{◌≡◌, not, ◌&&◌, List, ◌==◌};
 ghost use Rattle.language.specs.Syntax.{Name, same, Item, Prog};
 ghost use Rattle.language.specs.Meaning.{all_tops, used_in, items_of};
-ghost use Rattle.rows.specs.Has.{Has};
-ghost use Rattle.rows.specs.Trees.{item_no, name_of, item_row};
+ghost use Rattle.rows.specs.Has.{Has, named};
+ghost use Rattle.rows.specs.Trees.{item_no, name_of, item_row, prog_row};
+ghost use Rattle.limits.specs.Entries.{Left};
 ghost use Rattle.names.specs.File.{IsFile};
-ghost use Rattle.names.specs.Finds.{FindsTop, FindsUse, Resolves, uses};
+ghost use Rattle.names.specs.Finds.{FindsTop, FindsItems, FindsUse, Resolves, uses};
 
 use crate::file::File;
 use crate::found::Spot;
-use limits::entries::{files_of, is_named, items_of, own_name, used};
+use limits::entries::{Entries, Items, files_of, is_named, items_of, own_name, used};
 use rows::kind::ItemKind;
-use rows::read::{item_kind_at, name_at, same_at};
+use rows::read::{item_kind_at, name_at, past_item, same_at};
 
 // The name main.
 pub const MAIN: [u32; 4] = [109, 97, 105, 110];
@@ -36,6 +37,30 @@ fn is_used(row: &[u32], item: usize, name: &[u32]) -> bool
     }
 }
 
+// The items of the first file of a name.
+fn find_items(row: &[u32], file: usize) -> Option<Entries<Items>>
+    ensures { (p : Prog) (f : Name) → row.now ≡ prog_row p → Has row.now file (named f) → FindsItems row.now (items_of p f) result }
+{
+    let files = files_of(row);
+    let mut other = files.place();
+    for _ in 0..files.len() {
+        let items = items_of(row, other);
+        if same_at(row, other, file) {
+            return Some(items);
+        }
+        other = items.end();
+    }
+    None
+}
+
+// The file that some items use a name from: the place of its name.
+fn find_use(row: &[u32], mut items: Entries<Items>, name: &[u32]) -> Option<usize>
+    ensures { (is : List Item) → Left item_row row.now items.entry is → FindsUse row.now (used_in is name.now) result }
+{
+    let item = items.find(|item| is_used(row, *item, name))?;
+    Some(item.saturating_add(2))
+}
+
 impl File<'_> {
     // A name at the top of the file.
     pub fn find_top(self, name: &[u32]) -> Option<Spot>
@@ -51,14 +76,21 @@ impl File<'_> {
             fns: 0,
             tables: 0,
         };
-        for file in files_of(row) {
+        let files = files_of(row);
+        // not `for file in files`, which passes a file before it is looked at
+        let mut file = files.place();
+        for _ in 0..files.len() {
             let here = is_named(row, file, sought);
-            for item in items_of(row, file) {
-                if here & declares(row, item, name) {
+            let items = items_of(row, file);
+            let mut item = items.place();
+            for _ in 0..items.len() {
+                if here && declares(row, item, name) {
                     return Some(Spot { file, item, ..spot });
                 }
                 spot = spot.past(item_kind_at(row, item));
+                item = past_item(row, item);
             }
+            file = item;
         }
         None
     }
@@ -67,11 +99,8 @@ impl File<'_> {
     fn find_home(self, name: &[u32]) -> Option<usize>
         ensures { (p : Prog) (f : Name) → IsFile p f self.entry → FindsUse self.entry.row.now (used_in (items_of p f) name.now) result }
     {
-        let row = self.row;
-        let file = self.name;
-        let home = files_of(row).find(|other| same_at(row, *other, file))?;
-        let item = items_of(row, home).find(|item| is_used(row, *item, name))?;
-        Some(item.saturating_add(2))
+        let items = find_items(self.row, self.name)?;
+        find_use(self.row, items, name)
     }
 
     // A name at the top of the file, its own or one that it uses from another.

@@ -1,17 +1,18 @@
--- `find_top`: the loops' invariants, by what is left.
-use Rattle.std.proofs.Common.{◌≡◌}
-use Rattle.language.specs.Syntax.{Name, same, Prog}
-use Rattle.rows.specs.Has.{Has, named}
-use Rattle.rows.specs.Trees.{item_row, file_row}
-use Rattle.limits.specs.Entries.{Left}
-use Rattle.limits.proofs.EntryLaws.{Rest}
+-- `find_top`: the loops' invariants, by what is ahead.
+use Rattle.std.proofs.Common.{◌≡◌, ◌+◌, length}
+use Rattle.language.specs.Syntax.{Name, File, Prog}
+use Rattle.rows.specs.Has.{Has}
+use Rattle.rows.specs.Trees.{list_row, item_row, file_row}
+use Rattle.limits.proofs.EntryLaws.{Onward}
 use Rattle.names.proofs.Searching.{Files, Items}
 use Rattle.names.specs.File.{IsFile}
 use Rattle.names.proofs.file.File.find_top.Given as goal
 
-abbrev pub invariant-loop-file : goal.invariant-loop-file
-invariant-loop-file l = (p : Prog) (F : Name) → IsFile p F l.self → Rest (Left file_row) l.self.row.now (Files l.self.row.now p F l.name l.spot) l.file-iterator
+abbrev pub invariant-loop : goal.invariant-loop
+invariant-loop l = (p : Prog) (F : Name) → IsFile p F l.self → Onward file_row l.self.row.now l.end l.file l.counter (Files l.self.row.now p F l.name l.spot)
 
-abbrev pub invariant-loop-item : goal.invariant-loop-item
-invariant-loop-item l =
-    (p : Prog) (F : Name) → IsFile p F l.self → (f : Name) × (fs : Prog) × Has l.self.row.now l.file (named f) × (l.here ≡ same f F) × Left file_row l.self.row.now l.file-iterator fs × Rest (Left item_row) l.self.row.now (Items l.self.row.now p F l.name l.spot f fs) l.item-iterator
+-- the items end where the files behind them begin
+abbrev pub invariant-loop-2 : goal.invariant-loop-2
+invariant-loop-2 l =
+    (p : Prog) (F : Name) → IsFile p F l.self → (f : File) × (fs : Prog) × Has l.self.row.now l.file (file_row f) × Has l.self.row.now (l.file + length (file_row f)) (list_row file_row fs) × ((l.counter-2 + 1) + length fs ≡ l.end-2)
+    × Onward item_row l.self.row.now l.end l.item l.counter (λ is. (l.item + length (list_row item_row is) ≡ l.file + length (file_row f)) × Items l.self.row.now p F l.name l.spot f.name fs is)
