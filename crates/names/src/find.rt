@@ -54,7 +54,7 @@ fn find_items(row: &[u32], file: usize) -> Option<Entries<Items>>
 }
 
 // The file that some items use a name from: the place of its name.
-fn find_use(row: &[u32], mut items: Entries<Items>, name: &[u32]) -> Option<usize>
+pub fn find_use(row: &[u32], mut items: Entries<Items>, name: &[u32]) -> Option<usize>
     ensures { (is : List Item) → Left item_row row.now items.entry is → FindsUse row.now (used_in is name.now) result }
 {
     let item = items.find(|item| is_used(row, *item, name))?;
