@@ -101,6 +101,17 @@ pub fn depth_past(tag: Tag, depth: usize) -> usize
     }
 }
 
+// The same by the number of a tag; a number of none changes nothing.
+pub fn deeper_by(tag: usize, depth: usize) -> usize
+    ensures { result ≡ deeper tag depth }
+{
+    match tag {
+        19 => depth.saturating_add(1),
+        21 => depth.saturating_sub(1),
+        _ => depth,
+    }
+}
+
 // A call with so many arguments behind so many words, of what was found. None is that it is refused.
 fn call_with(found: Option<Entries<Locals>>, count: usize, words: usize) -> Option<Effect>
     ensures { (row : List ℕ) (o : Option (List Param)) → FindsParams row o found.entry → MayAsk row o count words result }
