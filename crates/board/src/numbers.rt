@@ -37,14 +37,22 @@ pub fn read_words(heap: Global, text: &[u8]) -> Result<Option<Vec<u32>>, AllocEr
     ensures { IfOk result (λ o. MatchOption o (listed None text.now ≡ None) (λ v. listed None text.now ≡ Some v.items)) }
 {
     let mut words = Vec::new(heap);
-    for piece in text.split(|b| is_blank(*b)) {
-        if piece.is_empty() {
-            continue;
+    let mut begun: Option<u32> = None;
+    // not `split`: each byte is gone over once, and the first wrong one ends it
+    for b in text {
+        if is_blank(*b) {
+            if let Some(n) = begun.take() {
+                words.push(n)?;
+            }
+        } else {
+            let Some(n) = push_digit(begun.unwrap_or(0), *b) else {
+                return Ok(None);
+            };
+            begun = Some(n);
         }
-        let Some(word) = parse_number(piece) else {
-            return Ok(None);
-        };
-        words.push(word)?;
+    }
+    if let Some(n) = begun {
+        words.push(n)?;
     }
     Ok(Some(words))
 }

@@ -1,13 +1,17 @@
 -- One more step of a run: what the loop of `run` keeps from turn to turn, and what it comes to where it stops.
 use Rattle.std.proofs.Common.{◌≡◌, ℕ, zero, suc, ◌+◌, ◌-◌, ◌<◌, ◌≤◌, List, [], ◌∷◌, ◌++◌, length, take, drop, set, Some, None, Bor, sym, refl, ap, ◌∙◌, subst, not-suc-le-zero, add-one, arith, length-set, length-drop, drop-drop, take-suc-set, drop-set-lt, below_more}
 use Rattle.processor.specs.Machine.{Machine, Next, goes, halts, faults, then, step, after, reads}
-use Rattle.processor.specs.Promise.{machine, says, Stepped, Answered, Stops, Going, Rest, RunsAs}
+use Rattle.processor.specs.Promise.{machine, says, Stepped, Answered, Stops, Going, RunsAs}
 use Rattle.processor.specs.declared.cpu.Cpu.{Cpu}
 use Rattle.processor.specs.declared.cpu.Event.{Event}
 use Rattle.processor.specs.declared.cpu.Event.TheVariants.{Goes, Out, In}
 
 pub one_more : (m : Machine) (k : ℕ) (ins outs : List ℕ) (c c' : Cpu) (mem mem' : List ℕ) (e : Event) → after k m ≡ goes (machine ins outs c mem) → Stepped c mem e c' mem' → after (k + 1) m ≡ says e (machine ins outs c' mem')
 one_more m k ins outs c c' mem mem' e inv s = ap (λ (n : ℕ). after n m) (add-one k) ∙ ap (λ (n : Next). then n step) inv ∙ s ins outs
+
+-- what is left of a list, behind some of it
+abbrev pub Rest : List ℕ → List ℕ → Type 0
+Rest xs ys = (n : ℕ) × (n ≤ length xs) × (ys ≡ drop n xs)
 
 -- what the loop keeps: the steps made, with what is left to read and what was put out; the words behind that are as they were
 abbrev pub Kept : Machine → ℕ → List ℕ → List ℕ → List ℕ → ℕ → List ℕ → Cpu → List ℕ → Type 0
@@ -25,6 +29,12 @@ rest_more xs ys zs y r e =
     let d : zs ≡ drop 1 (drop r.0 xs) = ap (drop 1) (sym e ∙ r.2) in
     let n : length ys ≡ length xs - r.0 = ap length r.2 ∙ length-drop r.0 xs in
     (r.0 + 1, omega arith, d ∙ drop-drop 1 r.0 xs)
+
+-- it lies behind as many words as it is shorter by
+rest_taken : (xs ys : List ℕ) → Rest xs ys → ys ≡ drop (length xs - length ys) xs
+rest_taken xs ys r =
+    let n : length ys ≡ length xs - r.0 = ap length r.2 ∙ length-drop r.0 xs in
+    r.2 ∙ ap (λ (j : ℕ). drop j xs) (omega (arith, n, r.1))
 
 module _ (m : Machine) (k : ℕ) (input room left : List ℕ) (s : ℕ) (out : List ℕ) (c c1 c2 : Cpu) (mem mem1 : List ℕ) (h : Kept m k input room left s out c mem) where
   pub turn_goes : Stepped c mem Goes c1 mem1 → Kept m (k + 1) input room left s out c1 mem1
@@ -59,26 +69,26 @@ module _ (steps : ℕ) (input room : List ℕ) (c0 : Cpu) (mem0 : List ℕ) (k :
   before : (j : ℕ) → j < k + 1 → Going (after j (machine input [] c0 mem0))
   before = going_all (machine input [] c0 mem0) k (subst Going (sym h.0) tt)
 
-  pub stop_at : (e : Event) → k < steps → Stepped c mem e c1 mem1 → Stops e (k + 1) steps s (length room) → RunsAs steps input c0 mem0 room (record { event = e; steps = k + 1; input = left; shown = s }) c1 mem1 out
+  pub stop_at : (e : Event) → k < steps → Stepped c mem e c1 mem1 → Stops e (k + 1) steps s (length room) → RunsAs steps input c0 mem0 room (record { event = e; steps = k + 1; taken = length input - length left.now; shown = s }) c1 mem1 out
   stop_at e lt st stops = record {
     in_budget = omega arith;
     makes_some = λ l. omega arith;
-    comes_to = one_more (machine input [] c0 mem0) k _ _ c c1 mem mem1 e h.0 st;
+    comes_to = one_more (machine input [] c0 mem0) k _ _ c c1 mem mem1 e h.0 st ∙ ap (λ (i : List ℕ). says e (machine i (take s out) c1 mem1)) (rest_taken input left.now h.1);
     goes_before = before;
     stops = stops;
-    in_input = h.1;
+    in_input = omega arith;
     in_output = omega (arith, h.2, h.3);
     behind = h.4;
   }
 
-  pub stop_last : k ≡ steps → RunsAs steps input c0 mem0 room (record { event = Goes; steps = steps; input = left; shown = s }) c mem out
+  pub stop_last : k ≡ steps → RunsAs steps input c0 mem0 room (record { event = Goes; steps = steps; taken = length input - length left.now; shown = s }) c mem out
   stop_last e = record {
     in_budget = omega arith;
     makes_some = λ l. l;
-    comes_to = ap (λ (n : ℕ). after n (machine input [] c0 mem0)) (sym e) ∙ h.0;
+    comes_to = ap (λ (n : ℕ). after n (machine input [] c0 mem0)) (sym e) ∙ h.0 ∙ ap (λ (i : List ℕ). goes (machine i (take s out) c mem)) (rest_taken input left.now h.1);
     goes_before = λ j l. before j (omega arith);
     stops = refl;
-    in_input = h.1;
+    in_input = omega arith;
     in_output = omega (arith, h.2, h.3);
     behind = h.4;
   }

@@ -84,17 +84,13 @@ Going (goes m) = Unit {0}
 Going (halts c x m) = ⊥
 Going faults = ⊥
 
--- what is left of a list, behind some of it
-abbrev pub Rest : List ℕ → List ℕ → Type 0
-Rest xs ys = (n : ℕ) × (n ≤ length xs) × (ys ≡ drop n xs)
-
 -- a run of at most so many steps, from a processor with words to read and nothing put out
 pub record RunsAs (steps : ℕ) (input : List ℕ) (c : Cpu) (mem output : List ℕ) (r : Ran) (c' : Cpu) (mem' output' : List ℕ) : Type 0 where
   pub in_budget : r.steps ≤ steps
   pub makes_some : 0 < steps → 0 < r.steps
-  pub comes_to : after r.steps (machine input [] c mem) ≡ says r.event (machine r.input.now (take r.shown output') c' mem')
+  pub comes_to : after r.steps (machine input [] c mem) ≡ says r.event (machine (drop r.taken input) (take r.shown output') c' mem')
   pub goes_before : (j : ℕ) → j < r.steps → Going (after j (machine input [] c mem))
   pub stops : Stops r.event r.steps steps r.shown (length output)
-  pub in_input : Rest input r.input.now
+  pub in_input : r.taken ≤ length input
   pub in_output : r.shown ≤ length output
   pub behind : drop r.shown output' ≡ drop r.shown output

@@ -6,13 +6,13 @@ use super::cpu::{Cpu, Event, Halt};
 use super::decoding::decode;
 use super::executing::locate;
 
-// How a run ended, after how many steps, the words that are left to read, and how many words were put out: as `read` says of a
-// buffer that is lent to it, since the words stand in the output.
+// How a run ended, after how many steps, and how many words it read and put out: numbers, as `read` gives of a buffer that is lent
+// to it, so that nothing stays lent while they are used.
 #[derive(Clone, Copy, Debug, PartialEq, Eq)]
-pub struct Ran<'a> {
+pub struct Ran {
     pub event: Event,
     pub steps: u32,
-    pub input: &'a [u32],
+    pub taken: usize,
     pub shown: usize,
 }
 
@@ -41,13 +41,7 @@ impl Cpu {
 
     // At most `steps` steps, with words to read and room for those that are put out. It can be resumed: with what is left of the
     // input and room for more words. `Out` is the event only where a word found no room; it is then in the event alone.
-    pub fn run<'a>(
-        &mut self,
-        mem: &mut [u32],
-        input: &'a [u32],
-        output: &mut [u32],
-        steps: u32,
-    ) -> Ran<'a>
+    pub fn run(&mut self, mem: &mut [u32], input: &[u32], output: &mut [u32], steps: u32) -> Ran
         ensures { RunsAs steps input.now self.old mem.old output.old result self.new mem.new output.new }
     {
         let mut left = input;
@@ -60,7 +54,7 @@ impl Cpu {
                         return Ran {
                             event: Event::Out(x),
                             steps: k + 1,
-                            input: left,
+                            taken: input.len() - left.len(),
                             shown,
                         };
                     }
@@ -77,7 +71,7 @@ impl Cpu {
                 Event::Halts(halt) => return Ran {
                     event: Event::Halts(halt),
                     steps: k + 1,
-                    input: left,
+                    taken: input.len() - left.len(),
                     shown,
                 },
             }
@@ -85,7 +79,7 @@ impl Cpu {
         Ran {
             event: Event::Goes,
             steps,
-            input: left,
+            taken: input.len() - left.len(),
             shown,
         }
     }

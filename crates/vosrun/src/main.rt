@@ -104,7 +104,7 @@ fn follow(
     // not a `for`: a turn takes as many steps as its run made
     while left > 0 {
         let ran = cpu.run(memory, input, &mut output, left.min(CHUNK));
-        input = ran.input;
+        input = input.split_at(ran.taken).1;
         left -= ran.steps;
         print_words(rt, &output[..ran.shown])?;
         match ran.event {
