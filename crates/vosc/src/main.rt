@@ -41,7 +41,8 @@ fn work(rt: &HostRuntime) -> anyhow::Result<bool> {
     if names.is_empty() {
         return Err(anyhow!(USAGE));
     }
-    let sources = read_sources(rt, names.as_slice())?;
+    // whole files: the line behind the last byte that a text may have is shown whole too
+    let sources = read_sources(rt, names.as_slice(), usize::MAX)?;
     answer(rt, sources.as_slice())
 }
 
@@ -50,7 +51,7 @@ fn main(rt: HostRuntime) -> anyhow::Result<()> {
         Ok(true) => Ok(()),
         Ok(false) => Err(anyhow!("no program")),
         Err(error) => {
-            let _ = eprintln!(rt; "vosc: {error:#}");
+            let _ = eprintln!(rt; "vosc: {error}");
             Err(error)
         }
     }
