@@ -1,5 +1,5 @@
 // The image's file.
-use anyhow::Context;
+use anyhow::anyhow;
 use std::alloc::Global;
 use std::io::Write;
 use std::{fs, io};
@@ -22,9 +22,8 @@ fn write_file(rt: &HostRuntime, name: &str, words: &[u32]) -> io::Result<()> {
 }
 
 fn put_in_place(rt: &HostRuntime, part: &str, name: &str, words: &[u32]) -> anyhow::Result<()> {
-    let heap = rt.alloc();
-    write_file(rt, part, words).with_context(|| format!(in heap; "{part}"))?;
-    fs::rename(rt, part, name).with_context(|| format!(in heap; "{name}"))
+    write_file(rt, part, words).map_err(|error| anyhow!("{part}: {error}"))?;
+    fs::rename(rt, part, name).map_err(|error| anyhow!("{name}: {error}"))
 }
 
 // Writes an image under another name first, so that no half of one ever stands under its own.

@@ -54,7 +54,7 @@ fn work(rt: &HostRuntime) -> anyhow::Result<bool> {
             Ok(true)
         }
         Request::Build(order) => {
-            let sources = read_sources(rt, order.files.as_slice())?;
+            let sources = read_sources(rt, order.files.as_slice(), MOST)?;
             answer(rt, &order, sources.as_slice())
         }
     }
@@ -65,7 +65,7 @@ fn main(rt: HostRuntime) -> anyhow::Result<()> {
         Ok(true) => Ok(()),
         Ok(false) => Err(anyhow!("nothing was built")),
         Err(error) => {
-            let _ = eprintln!(rt; "builder: {error:#}");
+            let _ = eprintln!(rt; "builder: {error}");
             Err(error)
         }
     }

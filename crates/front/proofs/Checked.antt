@@ -1,5 +1,5 @@
 -- The two halves of the checks are the checks, and what a text reads as by what the parser and the checks say.
-use Rattle.std.proofs.Common.{◌≡◌, ℕ, ◌≤◌, Bool, true, false, not, ◌&&◌, T, ltb, leb, List, [], ◌∷◌, length, sym, refl, ap, ◌∙◌, subst, ap₂, true≢false, leb→le, nltb→le}
+use Rattle.std.proofs.Common.{◌≡◌, ℕ, ◌≤◌, Bool, true, false, not, ◌&&◌, T, ltb, leb, Result, Err, List, [], ◌∷◌, length, sym, refl, ap, ◌∙◌, subst, ap₂, true≢false, leb→le, nltb→le}
 use mathlib.Core.Option.{Option, some, none}
 use Rattle.language.specs.Syntax.{pick, Name, Item, i_word, i_arr, i_data, i_table, i_fn, i_use, Prog}
 use Rattle.language.specs.Checks.{ok, has_main}
@@ -12,6 +12,9 @@ use Rattle.grammar.proofs.Reading.{reading-sound}
 use Rattle.limits.specs.Split.{item_resolved as item_l, items_resolved as items_l, files_resolved as files_l, resolved as resolved_l}
 use Rattle.names.specs.Resolved.{item_resolved, items_resolved, files_resolved, resolved}
 use Rattle.parser.specs.Programs.{Unread}
+use Rattle.front.specs.declared.Unreadable.{Unreadable}
+use Rattle.front.specs.declared.Unreadable.TheVariants.{Few, NoProgram}
+use Rattle.front.specs.Answers.{CheckSays, ReadSays}
 
 same_item : (p : Prog) (f : Name) (i : Item) → item_resolved p f i ≡ item_l p f i
 same_item p f (i_word x) = refl
@@ -55,3 +58,8 @@ enough w n e f = go (ltb w n) refl (sym e ∙ f)
 -- a text that is read has few bytes
 pub bytes-few : (t : List ℕ) → T (small t) → length t ≤ 32768
 bytes-few t h = leb→le (length t) 32768 (and_0 (leb (length t) 32768) _ h)
+
+-- what `check` refuses, `read` does
+pub same-refusal : (t : List ℕ) (w : ℕ) (e : Unreadable) → CheckSays t w (Err e) → ReadSays t w (Err e)
+same-refusal t w Few h = h
+same-refusal t w NoProgram h = h

@@ -8,7 +8,7 @@ ghost use Rattle.rows.specs.Trees.{prog_row};
 ghost use Rattle.generator.specs.ResolvedRows.{resolved_words, resolve_prog};
 ghost use Rattle.parser.specs.Programs.{Unread};
 ghost use Rattle.front.specs.Refusals.{unbuilt_of};
-ghost use Rattle.front.specs.Answers.{work_words, IsParsed, ReadSays, Begins};
+ghost use Rattle.front.specs.Answers.{work_words, IsParsed, CheckSays, ReadSays, Begins};
 
 mod parsed;
 
@@ -22,6 +22,14 @@ use resolver::resolve_program;
 use rows::row::Row;
 use std::error::Error;
 use std::fmt;
+
+// A program's stage, its row in the lent words, and the words that are left.
+#[derive(Drop)]
+pub struct Accepted<'a> {
+    pub stage: u32,
+    pub row: &'a [u32],
+    pub rest: &'a mut [u32],
+}
 
 // A program's stage, its row in the lent words, the same with its names resolved, and the words that are left.
 #[derive(Drop)]
@@ -102,9 +110,9 @@ fn is_few(words: usize, bytes: usize) -> bool
     words < 65536 || (words - 65536) / 16 < bytes
 }
 
-// Reads a text, with work words that its row is written to.
-pub fn read<'a>(text: &[u8], work: &'a mut [u32]) -> Result<Tree<'a>, Unreadable>
-    ensures { ReadSays text.now (length work.old) result }
+// Reads a text, with work words that its row is written to, for callers that want no names resolved.
+pub fn check<'a>(text: &[u8], work: &'a mut [u32]) -> Result<Accepted<'a>, Unreadable>
+    ensures { CheckSays text.now (length work.old) result }
 {
     if is_few(work.len(), text.len()) {
         return Err(Unreadable::Few);
@@ -116,10 +124,23 @@ pub fn read<'a>(text: &[u8], work: &'a mut [u32]) -> Result<Tree<'a>, Unreadable
     if !is_checked(row, pile) {
         return Err(Unreadable::NoProgram);
     }
-    let (names, rest) = pile.split_at_mut(3 * text.len() + 4);
+    Ok(Accepted {
+        stage: stage(row),
+        row,
+        rest: pile,
+    })
+}
+
+// The same, and the names of the program resolved.
+pub fn read<'a>(text: &[u8], work: &'a mut [u32]) -> Result<Tree<'a>, Unreadable>
+    ensures { ReadSays text.now (length work.old) result }
+{
+    let accepted = check(text, work)?;
+    let Accepted { stage, row, rest } = accepted;
+    let (names, rest) = rest.split_at_mut(3 * text.len() + 4);
     let resolved = resolve_row(row, names);
     Ok(Tree {
-        stage: stage(row),
+        stage,
         row,
         resolved: &names[..resolved],
         rest,

@@ -34,15 +34,17 @@ fn used_again(row: &[u32], items: Entries<Items>, before: usize, item: usize) ->
 fn doubled_name(whole: &[u8], row: &[u32], file: usize, before: usize) -> Option<Located<Fault>> {
     let items = items_of(row, file);
     for (k, item) in items.enumerate() {
-        let text = from_item(whole, before.saturating_add(k));
+        let before = before.saturating_add(k);
         if item_kind_at(row, item) == ItemKind::Use {
             if let Some(which) = used_again(row, items, k, item) {
+                let text = from_item(whole, before);
                 return Some(locate(whole, from_listed(text, which), Fault::DoubledName));
             }
         } else if items
             .take(k)
             .any(|other| gives(row, other, own_name(row, item)))
         {
+            let text = from_item(whole, before);
             return Some(locate(whole, past_pieces(text, 1), Fault::DoubledName));
         }
     }

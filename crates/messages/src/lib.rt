@@ -4,7 +4,7 @@
 ghost use Rattle.std.specs.Prelude.{◌≤◌, length};
 ghost use Rattle.messages.specs.Explains.{Explains};
 
-use front::{Parsed, Unreadable, parse_words, read};
+use front::{Parsed, Unreadable, check, parse_words};
 use pieces::refused::{Reason, Refused};
 use places::Located;
 
@@ -57,7 +57,7 @@ where
     requires refuses { R.IsAlwaysCallable refuse }
     ensures { Explains text.now (length work.old) result }
 {
-    let Err(Unreadable::NoProgram) = read(text, work) else {
+    let Err(Unreadable::NoProgram) = check(text, work) else {
         return None;
     };
     let found = match parse_words(text, work) {

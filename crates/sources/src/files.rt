@@ -2,7 +2,7 @@
 ghost use Rattle.std.specs.Prelude.{◌≡◌, take, IfOk};
 ghost use Rattle.std.specs.List.{flat_map};
 
-use anyhow::Context;
+use anyhow::anyhow;
 use std::alloc::{AllocError, Global};
 use std::fs;
 use std::io::{self, Read};
@@ -10,7 +10,7 @@ use std::io::{self, Read};
 // A text has at most 32,768 bytes; with one more, it is no program.
 pub const MOST: usize = 32769;
 
-// A file that was named: its name, and its bytes as far as they can matter.
+// A file that was named: its name, and its bytes as far as they were asked for.
 #[derive(Drop)]
 pub struct Source {
     pub name: String,
@@ -26,14 +26,18 @@ fn read_start(rt: &HostRuntime, name: &str, limit: usize) -> io::Result<Vec<u8>>
     Ok(bytes)
 }
 
-// Reads the files named, one after another, and of all of them no more bytes than can matter.
-pub fn read_sources(rt: &HostRuntime, names: &[String]) -> anyhow::Result<Vec<Source>> {
-    let heap = rt.alloc();
-    let mut sources = Vec::new(heap);
-    let mut left = MOST;
+// Reads the files named, one after another, and of all of them together no more bytes than a limit.
+pub fn read_sources(
+    rt: &HostRuntime,
+    names: &[String],
+    limit: usize,
+) -> anyhow::Result<Vec<Source>> {
+    let mut sources = Vec::new(rt.alloc());
+    let mut left = limit;
     for name in names {
-        let bytes = read_start(rt, name.as_str(), left).with_context(|| format!(in heap;
-            "{name}"
+        // the reason is no cause of its own: `main` would print that on a line of its own
+        let bytes = read_start(rt, name.as_str(), left).map_err(|error| anyhow!(
+            "{name}: {error}"
         ))?;
         left = left.saturating_sub(bytes.len());
         sources.push(Source {
@@ -54,4 +58,42 @@ pub fn join(heap: Global, sources: &[Source]) -> Result<Vec<u8>, AllocError>
         .copied()
         .take(MOST)
         .collect(heap)
+}
+
+#[cfg(test)]
+mod tests {
+    use super::*;
+    use std::test::Fail;
+
+    #[test]
+    fn joins_files_up_to_the_limit(rt: HostRuntime) -> Result<(), Fail> {
+        let mut sources = Vec::new(rt.alloc());
+        for (bytes, times) in [(b"ab", 1), (b"cd", MOST)] {
+            sources.push(Source {
+                name: String::new(rt.alloc()),
+                bytes: bytes.repeat(rt.alloc(), times)?,
+            })?;
+        }
+        let text = join(rt.alloc(), sources.as_slice())?;
+        assert!(rt; text.as_slice().starts_with(b"abcdcd"));
+        assert!(rt; text.len() == MOST);
+        sources.truncate(1);
+        let text = join(rt.alloc(), sources.as_slice())?;
+        assert!(rt; text.as_slice() == b"ab".as_slice());
+        Ok(())
+    }
+
+    // A device serves as a file: there is one wherever tests run.
+    #[test]
+    fn reads_files_up_to_the_limit(rt: HostRuntime) -> Result<(), Fail> {
+        let names = vec![in rt.alloc();
+            String::from_str(rt.alloc(), "/dev/zero")?,
+            String::from_str(rt.alloc(), "/dev/zero")?,
+        ]?;
+        let sources = read_sources(&rt, names.as_slice(), 5).map_err(|_| "refused")?;
+        assert!(rt; sources.len() == 2);
+        assert!(rt; sources.as_slice()[0].bytes.as_slice() == [0; 5].as_slice());
+        assert!(rt; sources.as_slice()[1].bytes.is_empty());
+        Ok(())
+    }
 }

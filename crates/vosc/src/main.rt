@@ -4,7 +4,7 @@
 
 use anyhow::anyhow;
 use chain::LANDED;
-use front::read;
+use front::check;
 use messages::explain_outline;
 use messages::outline::Outline;
 use sources::{MOST, Source, join, read_sources, show_problem};
@@ -20,8 +20,8 @@ where and why, as FILE:LINE:COLUMN: reason.";
 fn answer(rt: &HostRuntime, sources: &[Source]) -> anyhow::Result<bool> {
     let text = join(rt.alloc(), sources)?;
     let mut work = vec![in rt.alloc(); 0; text.len().min(MOST) * 16 + 65536]?;
-    if let Ok(tree) = read(text.as_slice(), work.as_mut_slice()) {
-        let stage = tree.stage;
+    if let Ok(program) = check(text.as_slice(), work.as_mut_slice()) {
+        let stage = program.stage;
         if stage > LANDED {
             println!(rt; "not yet {stage}")?;
         } else {
@@ -41,7 +41,8 @@ fn work(rt: &HostRuntime) -> anyhow::Result<bool> {
     if names.is_empty() {
         return Err(anyhow!(USAGE));
     }
-    let sources = read_sources(rt, names.as_slice())?;
+    // whole files: the line behind the last byte that a text may have is shown whole too
+    let sources = read_sources(rt, names.as_slice(), usize::MAX)?;
     answer(rt, sources.as_slice())
 }
 
@@ -50,7 +51,7 @@ fn main(rt: HostRuntime) -> anyhow::Result<()> {
         Ok(true) => Ok(()),
         Ok(false) => Err(anyhow!("no program")),
         Err(error) => {
-            let _ = eprintln!(rt; "vosc: {error:#}");
+            let _ = eprintln!(rt; "vosc: {error}");
             Err(error)
         }
     }

@@ -1,35 +1,32 @@
--- `read`: the parser's answer and the checks' together.
-use Rattle.std.proofs.Common.{◌≡◌, Bool, true, sym, refl, ap, ◌∙◌, arith}
-use mathlib.Core.Option.{some, none}
-use Rattle.language.specs.Syntax.{pick}
+-- `read`: what `check` answers, and the row of the resolved names.
+use Rattle.std.proofs.Common.{◌≡◌, true, length, arith}
+use Rattle.std.proofs.lemmas.Result.{err_from_is_err_and}
 use Rattle.language.specs.Checks.{ok}
-use Rattle.grammar.specs.Reading.{reading}
+use Rattle.grammar.proofs.PieceKinds.{true_of}
 use Rattle.grammar.proofs.Reading.{reading-sound}
 use Rattle.bounds.proofs.NodesSize.{resolved-short}
-use Rattle.front.proofs.Checked.{enough, none_read, read_as, bytes-few}
+use Rattle.front.proofs.Checked.{bytes-few, same-refusal}
 use Rattle.front.proofs.read.Goals as goal
 
-pub returns-in_default : goal.returns-in_default
-returns-in_default c = (enough _ _ c.is_few.ensures c.if-is_few.false, none_read c.args.text.now c.in_default.ensures)
-
-pub returns-then-not-is_checked : goal.returns-then-not-is_checked
-returns-then-not-is_checked c =
-    let q = c.in-Ok.ensures in
-    (enough _ _ c.is_few.ensures c.if-is_few.false, read_as c.args.text.now q.program _ q.parsed q.fits (c.is_checked.ensures q.program q.row_is) ∙ ap (λ (b : Bool). pick b (some q.program) none) c.if-not-is_checked.true)
+pub returns-in_err-accepted : goal.returns-in_err-accepted
+returns-in_err-accepted c =
+    let p = err_from_is_err_and c.from_residual.result c.from_residual.ensures.1 in
+    rw (p.1, p.2) (same-refusal c.args.text.now (length c.args.work.now) _ c.in_err-accepted.ensures)
 
 pub returns : goal.returns
 returns c =
-    let q = c.in-Ok.ensures in
-    let is_ok : ok q.program ≡ true = sym (c.is_checked.ensures q.program q.row_is) ∙ c.if-not-is_checked.false in
-    let read : reading c.args.text.now ≡ some q.program = read_as c.args.text.now q.program _ q.parsed q.fits refl ∙ ap (λ (b : Bool). pick b (some q.program) none) is_ok in
-    let short = resolved-short c.args.text.now q.program (reading-sound _ _ read) in (
-      enough _ _ c.is_few.ensures c.if-is_few.false,
+    let h = c.in_ok-accepted.ensures in
+    let is = h.1 in
+    let reads = reading-sound _ _ is.read_as in
+    let is_ok : ok is.program ≡ true = true_of _ reads.sound in
+    let short = resolved-short c.args.text.now is.program reads in (
+      h.0,
       record {
-        program = q.program;
-        read_as = read;
-        row_is = q.row_is;
-        stage_is = c.stage.ensures q.program q.row_is;
-        resolved_is = c.resolve_row-resolved.ensures.is q.program q.row_is is_ok (omega (arith, q.short, bytes-few c.args.text.now q.fits)) (omega (arith, short));
+        program = is.program;
+        read_as = is.read_as;
+        row_is = is.row_is;
+        stage_is = is.stage_is;
+        resolved_is = c.resolve_row-resolved.ensures.is is.program is.row_is is_ok (omega (arith, is.short, bytes-few c.args.text.now reads.small)) (omega (arith, h.0, h.2, short));
       },
-      omega arith,
+      omega (arith, h.0, h.2),
     )
