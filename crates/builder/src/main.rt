@@ -54,7 +54,7 @@ fn work(rt: &HostRuntime) -> anyhow::Result<bool> {
             Ok(true)
         }
         Request::Build(order) => {
-            let sources = read_sources(rt, order.files.as_slice(), MOST)?;
+            let sources = read_sources(rt, order.files.as_slice())?;
             answer(rt, &order, sources.as_slice())
         }
     }

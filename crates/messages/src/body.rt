@@ -7,7 +7,7 @@ use super::seeking::{from_large, from_leaving};
 use limits::entries::{Entries, Locals};
 use limits::head::head_of;
 use limits::nodes::Body;
-use names::asking::depth_past;
+use names::asking::depth_behind;
 use names::function::Function;
 use names::pile::Pile;
 use places::{Located, from_argument, locate, past_pieces};
@@ -33,7 +33,7 @@ impl Reader {
             leaving: self
                 .leaving
                 .saturating_add(usize::from(matches!(tag, Tag::Break | Tag::Next))),
-            depth: depth_past(tag, self.depth),
+            depth: depth_behind(tag, self.depth),
         }
     }
 }

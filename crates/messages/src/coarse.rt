@@ -7,7 +7,7 @@ use limits::entries::{Entries, Items, files_of, items_of, own_name};
 use limits::head::body_of;
 use limits::nodes::Body;
 use limits::{files_once, item_fits, names_once, totals_fit};
-use names::asking::depth_past;
+use names::asking::depth_behind;
 use names::file::File;
 use names::function::Function;
 use names::items::names_differ;
@@ -61,7 +61,7 @@ fn body_fault(whole: &[u8], text: &[u8], function: Function) -> Located<Fault> {
             };
             return locate(whole, place, fault);
         }
-        depth = depth_past(tag_at(row, node), depth);
+        depth = depth_behind(tag_at(row, node), depth);
     }
     locate(whole, text, Fault::ArgumentKind)
 }

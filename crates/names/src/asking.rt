@@ -91,7 +91,7 @@ fn may_stand(tag: Tag, high: usize, depth: usize) -> bool
 }
 
 // In how many loops the next node stands.
-pub fn depth_past(tag: Tag, depth: usize) -> usize
+pub fn depth_behind(tag: Tag, depth: usize) -> usize
     ensures { result ≡ deeper (tag_no tag) depth }
 {
     match tag {
@@ -102,7 +102,7 @@ pub fn depth_past(tag: Tag, depth: usize) -> usize
 }
 
 // The same by the number of a tag; a number of none changes nothing.
-pub fn deeper_by(tag: usize, depth: usize) -> usize
+pub fn depth_past(tag: usize, depth: usize) -> usize
     ensures { result ≡ deeper tag depth }
 {
     match tag {

@@ -8,7 +8,7 @@ ghost use Rattle.names.specs.Fold.{ctx, step};
 ghost use Rattle.names.specs.Function.{IsFunction};
 ghost use Rattle.names.specs.Pile.{Piled, Leaves, StillLent};
 
-use crate::asking::depth_past;
+use crate::asking::depth_behind;
 use crate::function::Function;
 use crate::pile::Pile;
 use limits::head::body_of;
@@ -41,7 +41,7 @@ impl Function<'_> {
             let Some(()) = self.check_node(node, depth, &mut pile) else {
                 return false;
             };
-            depth = depth_past(tag_at(self.file.row, node), depth);
+            depth = depth_behind(tag_at(self.file.row, node), depth);
         }
         true
     }

@@ -26,8 +26,13 @@ fn read_start(rt: &HostRuntime, name: &str, limit: usize) -> io::Result<Vec<u8>>
     Ok(bytes)
 }
 
-// Reads the files named, one after another, and of all of them together no more bytes than a limit.
-pub fn read_sources(
+// Reads the files named, one after another, and of all of them no more bytes than can matter.
+pub fn read_sources(rt: &HostRuntime, names: &[String]) -> anyhow::Result<Vec<Source>> {
+    read_within(rt, names, MOST)
+}
+
+// The same, with no more bytes of all of them together than a limit.
+pub fn read_within(
     rt: &HostRuntime,
     names: &[String],
     limit: usize,
@@ -90,7 +95,7 @@ mod tests {
             String::from_str(rt.alloc(), "/dev/zero")?,
             String::from_str(rt.alloc(), "/dev/zero")?,
         ]?;
-        let sources = read_sources(&rt, names.as_slice(), 5).map_err(|_| "refused")?;
+        let sources = read_within(&rt, names.as_slice(), 5).map_err(|_| "refused")?;
         assert!(rt; sources.len() == 2);
         assert!(rt; sources.as_slice()[0].bytes.as_slice() == [0; 5].as_slice());
         assert!(rt; sources.as_slice()[1].bytes.is_empty());

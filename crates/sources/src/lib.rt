@@ -5,6 +5,6 @@ mod files;
 mod lines;
 mod show;
 
-pub use files::{MOST, Source, join, read_sources};
+pub use files::{MOST, Source, join, read_sources, read_within};
 pub use lines::{Place, find_place, line_from};
 pub use show::show_problem;

@@ -7,7 +7,7 @@ use chain::LANDED;
 use front::check;
 use messages::explain_outline;
 use messages::outline::Outline;
-use sources::{MOST, Source, join, read_sources, show_problem};
+use sources::{MOST, Source, join, read_within, show_problem};
 use std::env;
 
 const USAGE: &str = "usage: vosc FILE...
@@ -42,7 +42,7 @@ fn work(rt: &HostRuntime) -> anyhow::Result<bool> {
         return Err(anyhow!(USAGE));
     }
     // whole files: the line behind the last byte that a text may have is shown whole too
-    let sources = read_sources(rt, names.as_slice(), usize::MAX)?;
+    let sources = read_within(rt, names.as_slice(), usize::MAX)?;
     answer(rt, sources.as_slice())
 }
 

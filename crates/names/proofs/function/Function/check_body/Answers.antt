@@ -35,10 +35,10 @@ loop-node-preserved c =
     let kept = c.check_node.ensures.lent.kept in (
       omega arith,
       omega arith,
-      omega (arith, c.depth_past-depth.ensures),
+      omega (arith, c.depth_behind-depth.ensures),
       λ p f g at1.
           rest_next NodesLeft (i.3 p f g at1) c.in-Some.ensures.steps
-          (λ t ts h r v. checking_more t ts v (omega arith) (ap tag_no (c.tag_at.ensures t h) ∙ sym (node_tag t h) ∙ tag_is t h) (λ st q. c.in-Some-check_node.ensures.leaves p f g at1 t st h q) c.depth_past-depth.ensures),
+          (λ t ts h r v. checking_more t ts v (omega arith) (ap tag_no (c.tag_at.ensures t h) ∙ sym (node_tag t h) ∙ tag_is t h) (λ st q. c.in-Some-check_node.ensures.leaves p f g at1 t st h q) c.depth_behind-depth.ensures),
     )
 
 pub returns-in_default : goal.returns-in_default
