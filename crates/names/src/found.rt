@@ -4,6 +4,7 @@ ghost use Rattle.language.specs.Syntax.{Item};
 ghost use Rattle.rows.specs.Kinds.{kind_of_item};
 ghost use Rattle.names.specs.Finds.{Passes};
 
+use crate::own::more;
 use rows::kind::{ItemKind, LocalKind};
 
 // Where an item stands in a program's row, the place of its file's name, and how many words, arrays, functions and tables stand before it.
@@ -22,24 +23,16 @@ impl Spot {
     pub fn past(self, kind: ItemKind) -> Spot
         ensures { (i : Item) → kind ≡ kind_of_item i → Passes i self result }
     {
-        match kind {
-            ItemKind::Word => Spot {
-                words: self.words.saturating_add(1),
-                ..self
-            },
-            ItemKind::Array | ItemKind::Data => Spot {
-                arrays: self.arrays.saturating_add(1),
-                ..self
-            },
-            ItemKind::Table => Spot {
-                tables: self.tables.saturating_add(1),
-                ..self
-            },
-            ItemKind::Function => Spot {
-                fns: self.fns.saturating_add(1),
-                ..self
-            },
-            ItemKind::Use => self,
+        // not a `match`: look-ups pass each item so, and a jump by its kind takes longer than the sums
+        Spot {
+            words: more(kind == ItemKind::Word, self.words),
+            arrays: more(
+                (kind == ItemKind::Array) | (kind == ItemKind::Data),
+                self.arrays,
+            ),
+            fns: more(kind == ItemKind::Function, self.fns),
+            tables: more(kind == ItemKind::Table, self.tables),
+            ..self
         }
     }
 }
