@@ -8,3 +8,4 @@ pub mod TotalLaws
 pub mod ItemLaws
 pub mod ApartLaws
 pub mod SplitLaws
+pub mod Letters

@@ -7,7 +7,7 @@ ghost use Rattle.rows.specs.Trees.{item_row, file_row, prog_row};
 ghost use Rattle.limits.specs.Entries.{Left};
 ghost use Rattle.limits.specs.Apart.{item_names, apart};
 
-use super::entries::{Entries, Items, Names, files_of, items_of, own_name, used};
+use super::entries::{Entries, Items, Names, files_of, is_named, items_of, own_name, used};
 use rows::kind::ItemKind;
 use rows::read::{item_kind_at, name_at};
 
@@ -17,7 +17,7 @@ fn gives(row: &[u32], item: usize, name: &[u32]) -> bool
 {
     match item_kind_at(row, item) {
         ItemKind::Use => used(row, item).have(0, name),
-        _ => own_name(row, item) == name,
+        _ => is_named(row, item.saturating_add(2), name),
     }
 }
 

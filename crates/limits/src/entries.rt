@@ -193,7 +193,16 @@ impl<'a, E: Entry> Iterator for Entries<'a, E> {
 pub fn is_named(row: &[u32], place: usize, name: &[u32]) -> bool
     ensures { (x : Name) → Has row.now place (named x) → result ≡ same x name.now }
 {
-    name_at(row, place) == name
+    // letter by letter: `==` of slices is a call for each name of the same length and first letter, and look-ups pass many
+    if at(row, place) != name.len() {
+        return false;
+    }
+    for (letter, sought) in name_at(row, place).iter().zip(name) {
+        if *letter != *sought {
+            return false;
+        }
+    }
+    true
 }
 
 // The items of a file.

@@ -4,7 +4,8 @@ use mathlib.Core.Option.{Option, some, none}
 use Rattle.language.specs.Syntax.{pick, opt, Name, same, Item, i_word, i_arr, i_data, i_table, i_fn, i_use, File, Prog}
 use Rattle.language.specs.Meaning.{on_some, Top, tops, all_tops, top_of, as_fn, as_table, words_in, arrays_in, is_word, is_arr, is_table, is_fn}
 use Rattle.steps.specs.Generate.{pos}
-use Rattle.rows.specs.declared.kind.ItemKind.TheVariants.{Use}
+use Rattle.rows.specs.declared.kind.ItemKind.{ItemKind}
+use Rattle.rows.specs.declared.kind.ItemKind.TheVariants.{Word, Array, Data, Table, Function, Use}
 use Rattle.rows.specs.Kinds.{kind_of_item}
 use Rattle.rows.specs.Has.{Has, named}
 use Rattle.rows.specs.Trees.{list_row, item_no, name_of, item_row, file_row, prog_row}
@@ -54,6 +55,26 @@ no_use (i_data d x ns) n = refl
 no_use (i_table x fs) n = refl
 no_use (i_fn g) n = refl
 no_use (i_use x ys) n = absurd (n refl)
+
+-- an item that is a use
+abbrev used : ItemKind → Bool
+used Word = false
+used Array = false
+used Data = false
+used Table = false
+used Function = false
+used Use = true
+
+used_no : (i : Item) → used (kind_of_item i) ≡ eqb (item_no i) 5
+used_no (i_word x) = refl
+used_no (i_arr r) = refl
+used_no (i_data d x ns) = refl
+used_no (i_table x fs) = refl
+used_no (i_fn g) = refl
+used_no (i_use x ys) = refl
+
+pub a_use : (i : Item) → Use ≡ kind_of_item i → true ≡ eqb (item_no i) 5
+a_use i e = ap used e ∙ used_no i
 
 -- an item is one word, array, function or table at most
 words_le : (i : Item) → words1 i ≤ 1

@@ -1,9 +1,10 @@
 -- What look-ups answer: a function's own name as the generator numbers it, what stands at the top, the file that a name is used from.
-use Rattle.std.specs.Prelude.{◌≡◌, ℕ, ◌+◌, min, Bool, false, List, [], ◌∷◌, length, MatchOption, nat_eq}
+use Rattle.std.specs.Prelude.{◌≡◌, ℕ, ◌+◌, min, Bool, false, List, [], ◌∷◌, length, MatchOption, nat_eq, slice_index}
 use Rattle.std.proofs.Math.Option.{Option, some, none}
 use Rattle.std.specs.declared.option.Option as std
 use Rattle.names.specs.declared.found.Spot.{Spot}
 use Rattle.names.specs.declared.found.Own.{Own}
+use Rattle.names.specs.declared.found.Passed.{Passed}
 use Rattle.limits.specs.declared.entries.Entries.{Entries}
 use Rattle.limits.specs.declared.entries.Items.{Items}
 use Rattle.limits.specs.Entries.{Left}
@@ -64,6 +65,10 @@ tables_in (i_data d x ns) = 0
 tables_in (i_table x fs) = 1
 tables_in (i_fn g) = 0
 tables_in (i_use x ys) = 0
+
+-- a spot behind items of which so many of each kind were passed
+abbrev pub behind : Passed → ℕ → ℕ → Spot
+behind p file item = record { file = file; item = item; words = slice_index p.counts 0; arrays = min (slice_index p.counts 1 + slice_index p.counts 2) 18446744073709551615; fns = slice_index p.counts 4; tables = slice_index p.counts 3 }
 
 -- one item on
 pub record Passes (i : Item) (s t : Spot) : Type 0 where

@@ -3,28 +3,26 @@ ghost use Rattle.std.specs.Prelude.{◌≡◌, not, ◌&&◌, List, ◌==◌};
 ghost use Rattle.language.specs.Syntax.{Name, same, Item, Prog};
 ghost use Rattle.language.specs.Meaning.{all_tops, used_in, items_of};
 ghost use Rattle.rows.specs.Has.{Has, named};
+ghost use Rattle.rows.specs.Kinds.{kind_of_item};
 ghost use Rattle.rows.specs.Trees.{item_no, name_of, item_row, prog_row};
 ghost use Rattle.limits.specs.Entries.{Left};
 ghost use Rattle.names.specs.File.{IsFile};
 ghost use Rattle.names.specs.Finds.{FindsTop, FindsItems, FindsUse, Resolves, uses};
 
 use crate::file::File;
-use crate::found::Spot;
-use limits::entries::{Entries, Items, files_of, is_named, items_of, own_name, used};
+use crate::found::{Passed, Spot};
+use limits::entries::{Entries, Items, files_of, is_named, items_of, used};
 use rows::kind::ItemKind;
 use rows::read::{item_kind_at, name_at, past_item, same_at};
 
 // The name main.
 pub const MAIN: [u32; 4] = [109, 97, 105, 110];
 
-// Whether an item declares a name.
-fn declares(row: &[u32], item: usize, name: &[u32]) -> bool
-    ensures { (i : Item) → Has row.now item (item_row i) → result ≡ (not (item_no i == 5) && same (name_of i) name.now) }
+// Whether an item of a kind declares a name.
+fn declares(row: &[u32], item: usize, kind: ItemKind, name: &[u32]) -> bool
+    ensures { (i : Item) → Has row.now item (item_row i) → kind ≡ kind_of_item i → result ≡ (not (item_no i == 5) && same (name_of i) name.now) }
 {
-    match item_kind_at(row, item) {
-        ItemKind::Use => false,
-        _ => own_name(row, item) == name,
-    }
+    is_named(row, item.saturating_add(2), name) && !matches!(kind, ItemKind::Use)
 }
 
 // Whether an item uses a name from another file.
@@ -68,14 +66,7 @@ impl File<'_> {
     {
         let row = self.row;
         let sought = name_at(row, self.name);
-        let mut spot = Spot {
-            file: 0,
-            item: 0,
-            words: 0,
-            arrays: 0,
-            fns: 0,
-            tables: 0,
-        };
+        let mut passed = Passed::none();
         let files = files_of(row);
         // not `for file in files`, which passes a file before it is looked at
         let mut file = files.place();
@@ -84,10 +75,11 @@ impl File<'_> {
             let items = items_of(row, file);
             let mut item = items.place();
             for _ in 0..items.len() {
-                if here && declares(row, item, name) {
-                    return Some(Spot { file, item, ..spot });
+                let kind = item_kind_at(row, item);
+                if here && declares(row, item, kind, name) {
+                    return Some(passed.spot(file, item));
                 }
-                spot = spot.past(item_kind_at(row, item));
+                passed.pass(kind);
                 item = past_item(row, item);
             }
             file = item;

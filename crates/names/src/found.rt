@@ -2,9 +2,8 @@
 ghost use Rattle.std.specs.Prelude.{◌≡◌};
 ghost use Rattle.language.specs.Syntax.{Item};
 ghost use Rattle.rows.specs.Kinds.{kind_of_item};
-ghost use Rattle.names.specs.Finds.{Passes};
+ghost use Rattle.names.specs.Finds.{Passes, behind};
 
-use crate::own::more;
 use rows::kind::{ItemKind, LocalKind};
 
 // Where an item stands in a program's row, the place of its file's name, and how many words, arrays, functions and tables stand before it.
@@ -18,21 +17,40 @@ pub struct Spot {
     pub tables: usize,
 }
 
-impl Spot {
-    // Behind an item of a kind.
-    pub fn past(self, kind: ItemKind) -> Spot
-        ensures { (i : Item) → kind ≡ kind_of_item i → Passes i self result }
+// How many items were passed, of each kind. Look-ups pass many: with a count for each kind it is one sum an item, and no jump by its kind.
+#[derive(Clone, Copy, Debug, PartialEq, Eq)]
+pub struct Passed {
+    counts: [usize; 6],
+}
+
+impl Passed {
+    // None yet.
+    pub fn none() -> Passed
+        ensures { behind result 0 0 ≡ record { file = 0; item = 0; words = 0; arrays = 0; fns = 0; tables = 0 } }
     {
-        // not a `match`: look-ups pass each item so, and a jump by its kind takes longer than the sums
+        Passed { counts: [0; 6] }
+    }
+
+    // One more of a kind.
+    pub fn pass(&mut self, kind: ItemKind)
+        ensures { (i : Item) → kind ≡ kind_of_item i → Passes i (behind self.old 0 0) (behind self.new 0 0) }
+    {
+        let count = &mut self.counts[kind as usize];
+        *count = count.saturating_add(1);
+    }
+
+    // Where the item behind them stands.
+    pub fn spot(self, file: usize, item: usize) -> Spot
+        ensures { result ≡ behind self file item }
+    {
+        let [words, arrays, data, tables, fns, _] = self.counts;
         Spot {
-            words: more(kind == ItemKind::Word, self.words),
-            arrays: more(
-                (kind == ItemKind::Array) | (kind == ItemKind::Data),
-                self.arrays,
-            ),
-            fns: more(kind == ItemKind::Function, self.fns),
-            tables: more(kind == ItemKind::Table, self.tables),
-            ..self
+            file,
+            item,
+            words,
+            arrays: arrays.saturating_add(data),
+            fns,
+            tables,
         }
     }
 }

@@ -1,6 +1,5 @@
 // A function's own names looked up: parameters, variables, own arrays, one list in the row.
-ghost use Rattle.std.specs.Prelude.{◌≡◌, ◌+◌, min, List};
-ghost use Rattle.language.specs.Words.{bit};
+ghost use Rattle.std.specs.Prelude.{List};
 ghost use Rattle.rows.specs.Trees.{Local, local_row};
 ghost use Rattle.limits.specs.Entries.{Left};
 ghost use Rattle.names.specs.Finds.{FindsOwn, slots_in};
@@ -9,13 +8,6 @@ use crate::found::Own;
 use limits::entries::{Entries, LETTERS, Locals, is_named};
 use rows::kind::LocalKind;
 use rows::read::local_kind_at;
-
-// One more if so.
-pub fn more(yes: bool, n: usize) -> usize
-    ensures { result ≡ min (n + bit yes) 18446744073709551615 }
-{
-    if yes { n.saturating_add(1) } else { n }
-}
 
 // A name among a function's.
 pub fn find_own(row: &[u32], locals: Entries<Locals>, name: &[u32]) -> Option<Own>

@@ -1,12 +1,10 @@
 -- `gives`: a name that an item gives, by its kind.
-use Rattle.std.proofs.Common.{◌≡◌, eqb, ◌∙◌, ap}
-use lib.Pointwise.{pointwise}
+use Rattle.std.proofs.Common.{◌≡◌, ◌∙◌, ap, arith}
 use Rattle.language.specs.Syntax.{listed}
 use Rattle.rows.specs.declared.kind.ItemKind.TheVariants.{Use}
 use Rattle.rows.specs.Trees.{name_of}
-use Rattle.rows.proofs.Naming.{same_pointwise}
 use Rattle.limits.specs.Apart.{item_names}
-use Rattle.limits.proofs.Places.{by_kind, names_here, map_same}
+use Rattle.limits.proofs.Places.{by_kind, item_name, names_here, map_same}
 use Rattle.limits.proofs.ApartLaws.{listed-own}
 use Rattle.limits.proofs.differ.gives.Goals as goal
 
@@ -18,4 +16,4 @@ returns-in-Use c =
 pub returns-in_default : goal.returns-in_default
 returns-in_default c = λ i h.
     let x = c.args.name.now in
-    c.eq.ensures ∙ ap (λ y. pointwise eqb y x) (c.own_name.ensures i h) ∙ same_pointwise (name_of i) x ∙ listed-own i (λ e. c.in_default.not-Use (c.item_kind_at.ensures i h ∙ e)) x
+    c.is_named.ensures (name_of i) (item_name (omega arith) c.saturating_add.ensures i h) ∙ listed-own i (λ e. c.in_default.not-Use (c.item_kind_at.ensures i h ∙ e)) x

@@ -1,18 +1,26 @@
 -- `declares`: the name of an item that is no use.
-use Rattle.std.proofs.Common.{◌≡◌, not, ◌&&◌, eqb, false, refl, ap, ◌∙◌}
-use lib.Pointwise.{pointwise}
+use Rattle.std.proofs.Common.{◌≡◌, Bool, true, false, not, ◌&&◌, eqb, sym, refl, ap, ◌∙◌, arith}
 use Rattle.language.specs.Syntax.{same}
-use Rattle.rows.specs.declared.kind.ItemKind.TheVariants.{Use}
 use Rattle.rows.specs.Trees.{item_no, name_of}
-use Rattle.rows.proofs.Naming.{same_pointwise}
-use Rattle.limits.proofs.Places.{by_kind}
-use Rattle.names.proofs.Searching.{no_use}
+use Rattle.limits.proofs.Places.{item_name}
+use Rattle.names.proofs.Searching.{no_use, a_use}
+use Rattle.names.proofs.find.declares.Goals.{in-Use, in_default}
 use Rattle.names.proofs.find.declares.Goals as goal
 
-pub returns-in-Use : goal.returns-in-Use
-returns-in-Use c = by_kind Use (λ i. false ≡ (not (eqb (item_no i) 5) && same (name_of i) c.args.name.now)) c.item_kind_at.ensures c.in-Use.is (λ y xs k. refl)
+pub returns-after-matches : goal.returns-after-matches
+returns-after-matches c = λ i h k.
+    let s = same (name_of i) c.args.name.now in
+    let e = c.is_named.ensures (name_of i) (item_name (omega arith) c.saturating_add.ensures i h) in
+    elim c.match-matches.branch [
+      | in-Use w ↦ ap not w.matches-is ∙ ap (λ b. not b && s) (a_use i (sym w.in-Use.is ∙ k))
+      | in_default w ↦ ap not w.matches-is ∙ sym c.if-is_named.true ∙ e ∙ ap (λ b. not b && s) (no_use i (λ u. w.in_default.not-Use (k ∙ u)))
+    ]
 
-pub returns-in_default : goal.returns-in_default
-returns-in_default c = λ i h.
-    let x = c.args.name.now in
-    c.eq.ensures ∙ ap (λ y. pointwise eqb y x) (c.own_name.ensures i h) ∙ same_pointwise (name_of i) x ∙ ap (λ b. not b && same (name_of i) x) (no_use i (λ e. c.in_default.not-Use (c.item_kind_at.ensures i h ∙ e)))
+pub returns-else-is_named : goal.returns-else-is_named
+returns-else-is_named c = λ i h k.
+    let e = c.is_named.ensures (name_of i) (item_name (omega arith) c.saturating_add.ensures i h) in
+    c.if-is_named.false ∙ none (not (eqb (item_no i) 5)) ∙ ap (λ s. not (eqb (item_no i) 5) && s) (sym c.if-is_named.false ∙ e)
+  where
+    none : (t : Bool) → false ≡ (t && false)
+    none true = refl
+    none false = refl

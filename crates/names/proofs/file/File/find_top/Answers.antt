@@ -1,16 +1,18 @@
 -- `find_top`: file by file, item by item.
-use Rattle.std.proofs.Common.{Bool, not, ◌&&◌, eqb, sym, ap, ◌∙◌, ap₂, arith, length-append}
+use Rattle.std.proofs.Common.{Bool, not, ◌&&◌, eqb, sym, ap, ◌∙◌, ap₂, subst, arith, length-append}
 use Rattle.language.specs.Syntax.{same}
+use Rattle.language.specs.Meaning.{all_tops}
 use Rattle.rows.specs.Trees.{list_row, item_no, name_of, item_row}
 use Rattle.rows.proofs.Having.{has_to}
 use Rattle.limits.proofs.EntryLaws.{onward_first, onward_none, onward_by, onward_next}
 use Rattle.limits.proofs.Places.{file-name}
-use Rattle.names.proofs.Searching.{files_first, files_last, into_file, behind_file, past_item, this_top, tested}
+use Rattle.names.specs.Finds.{TopAt}
+use Rattle.names.proofs.Searching.{Files, files_first, files_last, into_file, behind_file, past_item, this_top, tested}
 use Rattle.names.proofs.file.File.find_top.Goals.{else-here-via-then-here+else-declares, else-here-via-else-here}
 use Rattle.names.proofs.file.File.find_top.Goals as goal
 
 pub loop-init : goal.loop-init
-loop-init c = λ p F hf. onward_first (c.files_of-files.ensures p hf.row) c.place-file.ensures c.len-end.ensures (files_first hf.row)
+loop-init c = λ p F hf. onward_first (c.files_of-files.ensures p hf.row) c.place-file.ensures c.len-end.ensures (subst (λ s. Files c.args.self.row.now p F c.args.name.now s p) (sym c.none-passed.ensures) (files_first hf.row))
 
 pub loop-2-init : goal.loop-2-init
 loop-2-init c = λ p F hf.
@@ -36,7 +38,7 @@ returns-then-declares c = λ p F hf.
     let hn = file-name v.0 v.2 in
     let e = c.is_named-here.ensures v.0.name hn ∙ ap (same v.0.name) (c.name_at-sought.ensures F hf.name) in
     onward_by v.5 c.loop-2-test.true
-    (λ i is h r l q. this_top (omega arith) i is v.1 q.1 hn h (tested (same v.0.name F) (same (name_of i) c.args.name.now) (eqb (item_no i) 5) (sym (ap₂ (λ (a b : Bool). a && b) c.if-here.true c.if-declares.true) ∙ ap₂ (λ (a b : Bool). a && b) e (c.declares.ensures i h))))
+    (λ i is h r l q. subst (TopAt c.args.self.row.now (all_tops p 0 0) F c.args.name.now) (sym c.spot.ensures) (this_top (omega arith) i is v.1 q.1 hn h (tested (same v.0.name F) (same (name_of i) c.args.name.now) (eqb (item_no i) 5) (sym (ap₂ (λ (a b : Bool). a && b) c.if-here.true c.if-declares.true) ∙ ap₂ (λ (a b : Bool). a && b) e (c.declares.ensures i h (c.item_kind_at-kind.ensures i h))))))
 
 pub loop-2-preserved : goal.loop-2-preserved
 loop-2-preserved c = λ p F hf.
@@ -50,9 +52,9 @@ loop-2-preserved c = λ p F hf.
       onward_next v.5 c.loop-2-test.true (λ i h. omega (arith, c.past_item-item.ensures i h))
           (λ i is h q. (
             omega (arith, q.0, c.past_item-item.ensures i h, length-append (item_row i) (list_row item_row is)),
-            past_item (omega arith) i is v.1 q.1 (c.past-spot.ensures i (c.item_kind_at.ensures i h)) (tested (same v.0.name F) (same (name_of i) c.args.name.now) (eqb (item_no i) 5) (
+            past_item (omega arith) i is v.1 q.1 (c.pass.ensures i (c.item_kind_at-kind.ensures i h)) (tested (same v.0.name F) (same (name_of i) c.args.name.now) (eqb (item_no i) 5) (
                 elim c.else-here.branch [
-                  | else-here-via-then-here+else-declares w ↦ sym (ap₂ (λ (a b : Bool). a && b) w.if-here.true w.if-declares.false) ∙ ap₂ (λ (a b : Bool). a && b) e (w.declares.ensures i h)
+                  | else-here-via-then-here+else-declares w ↦ sym (ap₂ (λ (a b : Bool). a && b) w.if-here.true w.if-declares.false) ∙ ap₂ (λ (a b : Bool). a && b) e (w.declares.ensures i h (c.item_kind_at-kind.ensures i h))
                   | else-here-via-else-here w ↦ ap (λ (a : Bool). a && (not (eqb (item_no i) 5) && same (name_of i) c.args.name.now)) (sym w.if-here.false ∙ e)
                 ])),
           )),
