@@ -1,17 +1,14 @@
 -- Names compared letter by letter.
 use Rattle.std.proofs.Common.{◌≡◌, ℕ, suc, ◌⊎◌, inl, inr, Bool, true, false, ◌&&◌, eqb, [], ◌∷◌, length, refl, ap, ◌∙◌, ap₂, eq-eqb, ne_eqb, arith}
 use Rattle.language.specs.Syntax.{Name, same}
+use Rattle.limits.proofs.Flags.{and-false}
 
 -- names of other lengths are others
 pub same-long : (x y : Name) → (length x ≡ length y → ⊥) → same x y ≡ false
 same-long [] [] e = absurd (e refl)
 same-long [] (b ∷ y) e = refl
 same-long (a ∷ x) [] e = refl
-same-long (a ∷ x) (b ∷ y) e = ap (λ (t : Bool). eqb a b && t) (same-long x y (λ k. e (ap suc k))) ∙ both (eqb a b)
-  where
-    both : (t : Bool) → (t && false) ≡ false
-    both true = refl
-    both false = refl
+same-long (a ∷ x) (b ∷ y) e = ap (λ (t : Bool). eqb a b && t) (same-long x y (λ k. e (ap suc k))) ∙ and-false (eqb a b)
 
 -- names as far as they were compared: what is left of both is as long, and decides
 abbrev pub Compared : Name → Name → Name → Name → Type 0

@@ -193,16 +193,18 @@ impl<'a, E: Entry> Iterator for Entries<'a, E> {
 pub fn is_named(row: &[u32], place: usize, name: &[u32]) -> bool
     ensures { (x : Name) → Has row.now place (named x) → result ≡ same x name.now }
 {
-    // letter by letter: `==` of slices is a call for each name of the same length and first letter, and look-ups pass many
+    // letter by letter: look-ups pass many names, and `==` of slices is a call for each of the same length and first letter
     if at(row, place) != name.len() {
         return false;
     }
-    for (letter, sought) in name_at(row, place).iter().zip(name) {
+    let letters = name_at(row, place);
+    for (letter, sought) in letters.iter().zip(name) {
         if *letter != *sought {
             return false;
         }
     }
-    true
+    // where the row ends too soon, there are none
+    letters.len() == name.len()
 }
 
 // The items of a file.

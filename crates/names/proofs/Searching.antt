@@ -56,25 +56,25 @@ no_use (i_table x fs) n = refl
 no_use (i_fn g) n = refl
 no_use (i_use x ys) n = absurd (n refl)
 
--- an item that is a use
-abbrev used : ItemKind → Bool
-used Word = false
-used Array = false
-used Data = false
-used Table = false
-used Function = false
-used Use = true
+-- a kind that is a use, and an item of it
+abbrev is_use : ItemKind → Bool
+is_use Word = false
+is_use Array = false
+is_use Data = false
+is_use Table = false
+is_use Function = false
+is_use Use = true
 
-used_no : (i : Item) → used (kind_of_item i) ≡ eqb (item_no i) 5
-used_no (i_word x) = refl
-used_no (i_arr r) = refl
-used_no (i_data d x ns) = refl
-used_no (i_table x fs) = refl
-used_no (i_fn g) = refl
-used_no (i_use x ys) = refl
+is_use_no : (i : Item) → is_use (kind_of_item i) ≡ eqb (item_no i) 5
+is_use_no (i_word x) = refl
+is_use_no (i_arr r) = refl
+is_use_no (i_data d x ns) = refl
+is_use_no (i_table x fs) = refl
+is_use_no (i_fn g) = refl
+is_use_no (i_use x ys) = refl
 
 pub a_use : (i : Item) → Use ≡ kind_of_item i → true ≡ eqb (item_no i) 5
-a_use i e = ap used e ∙ used_no i
+a_use i e = ap is_use e ∙ is_use_no i
 
 -- an item is one word, array, function or table at most
 words_le : (i : Item) → words1 i ≤ 1

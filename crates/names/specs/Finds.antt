@@ -66,7 +66,7 @@ tables_in (i_table x fs) = 1
 tables_in (i_fn g) = 0
 tables_in (i_use x ys) = 0
 
--- a spot behind items of which so many of each kind were passed
+-- a spot behind items, by how many of each kind were passed (kinds by their numbers)
 abbrev pub behind : Passed → ℕ → ℕ → Spot
 behind p file item = record { file = file; item = item; words = slice_index p.counts 0; arrays = min (slice_index p.counts 1 + slice_index p.counts 2) 18446744073709551615; fns = slice_index p.counts 4; tables = slice_index p.counts 3 }
 

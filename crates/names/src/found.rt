@@ -1,4 +1,4 @@
-// What look-ups find: an item at the top, a function's own name, what a name stands for.
+// What look-ups find: an item at the top, behind how many others, a function's own name, what a name stands for.
 ghost use Rattle.std.specs.Prelude.{◌≡◌};
 ghost use Rattle.language.specs.Syntax.{Item};
 ghost use Rattle.rows.specs.Kinds.{kind_of_item};

@@ -1,5 +1,5 @@
 -- `is_named`: a name compared letter by letter with what stands in the row.
-use Rattle.std.proofs.Common.{length, ◌⊎◌, inl, inr, sym, ap, ap₂, ◌∙◌}
+use Rattle.std.proofs.Common.{eq-eqb, length, ◌⊎◌, inl, inr, sym, ap, ap₂, ◌∙◌}
 use Rattle.language.specs.Syntax.{same}
 use Rattle.rows.proofs.Having.{has_word}
 use Rattle.limits.proofs.Letters.{same-long, compared_stop, compared_on, compared_all}
@@ -10,7 +10,7 @@ returns-then-at-name c = λ x h. sym (same-long x c.args.name.now (λ e. c.if-at
 
 pub loop-letter-init : goal.loop-letter-init
 loop-letter-init c = λ x h.
-    let a = ap (λ z. z.a.rest.now) c.into_iter-letter-iterator.ensures.into_iter_gives ∙ ap (λ i. i.rest.now) c.zip-letter-items.ensures.first ∙ c.iter.ensures.rest ∙ c.name_at.ensures x h in
+    let a = ap (λ z. z.a.rest.now) c.into_iter-letter-iterator.ensures.into_iter_gives ∙ ap (λ i. i.rest.now) c.zip-letter-items.ensures.first ∙ c.iter.ensures.rest ∙ c.name_at-letters.ensures x h in
     let b = ap (λ z. z.b.rest.now) c.into_iter-letter-iterator.ensures.into_iter_gives ∙ c.zip-letter-items.ensures.second.0 in
     (ap length a ∙ sym (has_word h) ∙ sym c.at.ensures.is ∙ c.if-at-name.false ∙ sym (ap length b), sym (ap₂ same a b))
 
@@ -30,4 +30,6 @@ ended (inl (s, h)) = inl h.0
 ended (inr (t, h)) = inr h.0
 
 pub returns : goal.returns
-returns c = λ x h. sym (compared_all x c.args.name.now _ _ (c.loop-letter.invariant x h) (ended c.in-None.ensures.steps))
+returns c = λ x h.
+    let e = ap length (c.name_at-letters.ensures x h) ∙ sym (has_word h) ∙ sym c.at.ensures.is ∙ c.if-at-name.false in
+    eq-eqb _ _ e ∙ sym (compared_all x c.args.name.now _ _ (c.loop-letter.invariant x h) (ended c.in-None.ensures.steps))

@@ -1,7 +1,8 @@
 -- `declares`: the name of an item that is no use.
-use Rattle.std.proofs.Common.{◌≡◌, Bool, true, false, not, ◌&&◌, eqb, sym, refl, ap, ◌∙◌, arith}
+use Rattle.std.proofs.Common.{not, ◌&&◌, eqb, sym, ap, ◌∙◌, arith}
 use Rattle.language.specs.Syntax.{same}
 use Rattle.rows.specs.Trees.{item_no, name_of}
+use Rattle.limits.proofs.Flags.{and-false}
 use Rattle.limits.proofs.Places.{item_name}
 use Rattle.names.proofs.Searching.{no_use, a_use}
 use Rattle.names.proofs.find.declares.Goals.{in-Use, in_default}
@@ -19,8 +20,4 @@ returns-after-matches c = λ i h k.
 pub returns-else-is_named : goal.returns-else-is_named
 returns-else-is_named c = λ i h k.
     let e = c.is_named.ensures (name_of i) (item_name (omega arith) c.saturating_add.ensures i h) in
-    c.if-is_named.false ∙ none (not (eqb (item_no i) 5)) ∙ ap (λ s. not (eqb (item_no i) 5) && s) (sym c.if-is_named.false ∙ e)
-  where
-    none : (t : Bool) → false ≡ (t && false)
-    none true = refl
-    none false = refl
+    c.if-is_named.false ∙ sym (and-false (not (eqb (item_no i) 5))) ∙ ap (λ s. not (eqb (item_no i) 5) && s) (sym c.if-is_named.false ∙ e)
