@@ -9,7 +9,8 @@ fn push_digit(value: u32, b: u8) -> Option<u32>
     ensures { result ≡ more value b }
 {
     let digit = char::from(b).to_digit(10)?;
-    value.checked_mul(10)?.checked_add(digit)
+    // in 64 bits, with one test for each digit: `checked_mul` and `checked_add` are two
+    u32::try_from(u64::from(value) * 10 + u64::from(digit)).ok()
 }
 
 // The word that a text is the number of, in digits alone.
@@ -29,7 +30,8 @@ pub fn parse_number(text: &[u8]) -> Option<u32>
 fn is_blank(b: u8) -> bool
     ensures { result ≡ blank b }
 {
-    matches!(b, b' ' | b'\t' | b'\n' | b'\r')
+    // not `matches!`: LLVM makes several tests of it, and one of this
+    b == b' ' || b == b'\t' || b == b'\n' || b == b'\r'
 }
 
 // The numbers of a text with blanks and ends of lines between them; none if anything else stands there.
