@@ -9,7 +9,7 @@ fn push_digit(value: u32, b: u8) -> Option<u32>
     ensures { result ≡ more value b }
 {
     let digit = char::from(b).to_digit(10)?;
-    // in 64 bits, with one test for each digit: `checked_mul` and `checked_add` are two
+    // in 64 bits, so that one test says whether it is too large: `checked_mul` and `checked_add` are two
     u32::try_from(u64::from(value) * 10 + u64::from(digit)).ok()
 }
 
@@ -30,7 +30,7 @@ pub fn parse_number(text: &[u8]) -> Option<u32>
 fn is_blank(b: u8) -> bool
     ensures { result ≡ blank b }
 {
-    // not `matches!`: LLVM makes several tests of it, and one of this
+    // not `matches!`: LLVM makes one mask of this, and several tests of that
     b == b' ' || b == b'\t' || b == b'\n' || b == b'\r'
 }
 
