@@ -1,5 +1,5 @@
 // The files that are read.
-ghost use Rattle.std.specs.Prelude.{◌≡◌, take, IfOk};
+ghost use Rattle.std.specs.Prelude.{◌≡◌, ◌≤◌, length, take, map, string_bytes, IfOk};
 ghost use Rattle.std.specs.List.{flat_map};
 
 use anyhow::anyhow;
@@ -18,25 +18,31 @@ pub struct Source {
 }
 
 // The first bytes of a file, as many as there are and not more than a limit.
-fn read_start(rt: &HostRuntime, name: &str, limit: usize) -> io::Result<Vec<u8>> {
+fn read_start(rt: &HostRuntime, name: &str, limit: usize) -> io::Result<Vec<u8>>
+    ensures { IfOk result (λ bytes. length bytes.items ≤ limit) }
+{
     let mut bytes = Vec::new(rt.alloc());
     fs::open(rt, name)?
         .take(limit as u64)
         .read_to_end(&mut bytes)?;
+    // of what a machine gives, the library promises no limit
+    bytes.truncate(limit);
     Ok(bytes)
 }
 
 // Reads the files named, one after another, and of all of them no more bytes than can matter.
-pub fn read_sources(rt: &HostRuntime, names: &[String]) -> anyhow::Result<Vec<Source>> {
+pub fn read_sources(rt: &HostRuntime, names: &[String]) -> anyhow::Result<Vec<Source>>
+    ensures named { IfOk result (λ sources. map (λ source. string_bytes source.name) sources.items ≡ map string_bytes names.now) }
+    ensures short { IfOk result (λ sources. length (flat_map (λ source. source.bytes.items) sources.items) ≤ 32769) }
+{
     read_within(rt, names, MOST)
 }
 
 // The same, with no more bytes of all of them together than a limit.
-pub fn read_within(
-    rt: &HostRuntime,
-    names: &[String],
-    limit: usize,
-) -> anyhow::Result<Vec<Source>> {
+pub fn read_within(rt: &HostRuntime, names: &[String], limit: usize) -> anyhow::Result<Vec<Source>>
+    ensures named { IfOk result (λ sources. map (λ source. string_bytes source.name) sources.items ≡ map string_bytes names.now) }
+    ensures short { IfOk result (λ sources. length (flat_map (λ source. source.bytes.items) sources.items) ≤ limit) }
+{
     let mut sources = Vec::new(rt.alloc());
     let mut left = limit;
     for name in names {
