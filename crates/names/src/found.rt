@@ -17,6 +17,19 @@ pub struct Spot {
     pub tables: usize,
 }
 
+impl Spot {
+    // Behind an item of a kind.
+    pub fn past(self, kind: ItemKind) -> Spot
+        ensures { (i : Item) → kind ≡ kind_of_item i → Passes i self result }
+    {
+        let mut passed = Passed {
+            counts: [self.words, self.arrays, 0, self.tables, self.fns, 0],
+        };
+        passed.pass(kind);
+        passed.spot(self.file, self.item)
+    }
+}
+
 // How many items were passed, of each kind. Look-ups pass many: with a count for each kind it is one sum an item, and no jump by its kind.
 #[derive(Clone, Copy, Debug, PartialEq, Eq)]
 pub struct Passed {
@@ -71,4 +84,35 @@ pub enum Reference {
     TopWord(usize),
     TopArray(usize, bool),
     Other,
+}
+
+#[cfg(test)]
+mod tests {
+    use super::*;
+
+    // Behind an item of each kind, which changes one number at most.
+    #[test]
+    fn passes_items(rt: HostRuntime) {
+        let before = Spot {
+            file: 1,
+            item: 4,
+            words: 2,
+            arrays: 3,
+            fns: 5,
+            tables: usize::MAX,
+        };
+        let word = Spot { words: 3, ..before };
+        let array = Spot {
+            arrays: 4,
+            ..before
+        };
+        let function = Spot { fns: 6, ..before };
+        assert!(rt; before.past(ItemKind::Word) == word);
+        assert!(rt; before.past(ItemKind::Array) == array);
+        assert!(rt; before.past(ItemKind::Data) == array);
+        assert!(rt; before.past(ItemKind::Function) == function);
+        // no number is larger
+        assert!(rt; before.past(ItemKind::Table) == before);
+        assert!(rt; before.past(ItemKind::Use) == before);
+    }
 }
