@@ -99,20 +99,29 @@ mod tests {
             words: 2,
             arrays: 3,
             fns: 5,
-            tables: usize::MAX,
+            tables: 6,
         };
         let word = Spot { words: 3, ..before };
         let array = Spot {
             arrays: 4,
             ..before
         };
+        let table = Spot {
+            tables: 7,
+            ..before
+        };
         let function = Spot { fns: 6, ..before };
+        let most = Spot {
+            words: usize::MAX,
+            ..before
+        };
         assert!(rt; before.past(ItemKind::Word) == word);
         assert!(rt; before.past(ItemKind::Array) == array);
         assert!(rt; before.past(ItemKind::Data) == array);
+        assert!(rt; before.past(ItemKind::Table) == table);
         assert!(rt; before.past(ItemKind::Function) == function);
-        // no number is larger
-        assert!(rt; before.past(ItemKind::Table) == before);
         assert!(rt; before.past(ItemKind::Use) == before);
+        // no number is larger
+        assert!(rt; most.past(ItemKind::Word) == most);
     }
 }
